@@ -1,0 +1,9 @@
+pub mod Growth
+pub mod Noting
+pub mod Following
+pub mod Steps
+pub mod Searching
+pub mod Passing
+pub mod Decompose
+pub mod Recursing
+pub mod Verdict

@@ -1,0 +1,9 @@
+pub mod Rows
+pub mod Once
+pub mod ReadTables
+pub mod Sizes
+pub mod Sets
+pub mod Runs
+pub mod Soundness
+pub mod Verdict
+pub mod Inside

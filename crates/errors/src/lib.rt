@@ -1,0 +1,2 @@
+// Why a call is denied: one enum for every layer.
+pub mod denial;

@@ -1,0 +1,3 @@
+// Sets of the numbers -2 to 255 as rising intervals: token types, EOF (-1) and EPSILON (-2).
+pub mod interval;
+pub mod set;
