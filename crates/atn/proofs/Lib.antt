@@ -7,3 +7,4 @@ pub mod Passing
 pub mod Decompose
 pub mod Recursing
 pub mod Verdict
+pub mod Labelling

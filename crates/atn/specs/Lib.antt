@@ -5,3 +5,4 @@ pub mod Reach
 pub mod Passes
 pub mod Calls
 pub mod Checked
+pub mod Labels

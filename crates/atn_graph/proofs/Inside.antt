@@ -1,11 +1,15 @@
 -- What a checked graph names lies inside it.
 use mathlib.Core.Bool.{Bool, true, false, _&&_}
+use mathlib.Core.Logic.{_⊎_, inl, inr}
 use mathlib.Core.Path.{_≡_, refl, sym, ap, subst, _∙_}
-use Prim.Native.Nat.{ℕ, _+_, _-_, _<_, _≤_}
+use Prim.Native.Nat.{ℕ, zero, suc, _+_, _-_, _<_, _≤_}
 use lib.Dec.{eqb, ltb}
+use lib.IntN.{pos}
 use lib.ListN.{length}
+use lib.Signed.{ltZ}
 use native.Mathlib.Omega.{arith}
-use Rattle.std.proofs.shelf.Tests.{and-parts, ltb-true, eqb-true}
+use Rattle.std.proofs.shelf.Signed.{ints}
+use Rattle.std.proofs.shelf.Tests.{and-parts, or-parts, or-right, ltb-true, eqb-true, cases-lt}
 use Rattle.interval_set.specs.Intervals.{from-to}
 use Rattle.atn_graph.specs.declared.graph.Graph.{Graph}
 use Rattle.atn_graph.specs.declared.transition.Move.{Move}
@@ -13,8 +17,9 @@ use Rattle.atn_graph.specs.declared.transition.Move.the-variants.{Along, Call,
 use Rattle.atn_graph.specs.declared.transition.TransitionKind.{TransitionKind}
 use Rattle.atn_graph.specs.declared.transition.TransitionKind.the-variants.{Epsilon, Range, Rule, Predicate, Atom, Action, Set, NotSet, Wildcard, Precedence}
 use Rattle.atn_graph.specs.Kinds.{move-of}
-use Rattle.atn_graph.specs.Net.{Net, net, size, Of, Runs, ruleAt, stateAt, edgeAt}
-use Rattle.atn_graph.specs.Rules.{Sound, in-rule, range-fits, interval-fits, set-fits, kind-fits}
+use Rattle.atn_graph.specs.Tables.{outside, counts-outside}
+use Rattle.atn_graph.specs.Net.{Net, net, size, Of, Runs, end-before, ruleAt, stateAt, edgeAt}
+use Rattle.atn_graph.specs.Rules.{Sound, in-rule, eof-only, range-fits, interval-fits, set-fits, kind-fits, counts-of}
 use Rattle.atn_graph.proofs.Sizes.{size-is, rules-length, edges-length}
 use Rattle.atn_graph.proofs.Runs.{ends-rise}
 use Rattle.atn_graph.proofs.Soundness.{sound-of, runs-of}
@@ -60,6 +65,14 @@ kind-follow n s t (NotSet f c) h = tt
 kind-follow n s t Wildcard h = tt
 kind-follow n s t Precedence h = tt
 
+-- a net has a state
+some-states : (g : Graph) → 0 < size (net (g .lists))
+some-states g =
+    let n = net (g .lists) in
+    let few = or-parts (counts-outside (counts-of n)) (outside 1 255 (n .max)) (g .limits) .0 in
+    let states = or-parts (outside 2 512 (pos (size n))) _ (or-parts (outside 1 64 (pos (length (n .rules)))) _ few .1) .0 in
+    omega (arith, ints, or-parts (ltZ (pos (size n)) (pos 2)) _ states .0)
+
 pub few-states : (g : Graph) → size (net (g .lists)) ≤ 512
 few-states g = omega (arith, size-is (g .lists), g .lists .«few_states»)
 
@@ -78,3 +91,53 @@ module _ (g : Graph) (s j : ℕ) (l : s < size (net (g .lists))) (of : Of (net (
 
 pub start-inside : (g : Graph) (r : ℕ) → r < length (net (g .lists) .rules) → ruleAt (net (g .lists)) r .start < size (net (g .lists))
 start-inside g r l = in-net (net (g .lists)) _ r (sound-of g .rules r l .start)
+
+-- each edge before the place where the first k states' edges end is one of theirs
+owner-before : (n : Net) → Runs n → (j k : ℕ) → k ≤ size n → j < end-before (n .states) k → (s : ℕ) × (s < size n) × Of n s j
+owner-before n r j zero l h = absurd (none h)
+  where
+    none : j < 0 → ⊥
+    none h = omega arith
+owner-before n r j (suc k) l h = at (λ b. owner-before n r j k (omega arith) b) (cases-lt j (end-before (n .states) k))
+  where
+    at : (j < end-before (n .states) k → (s : ℕ) × (s < size n) × Of n s j) → (j < end-before (n .states) k) ⊎ (end-before (n .states) k ≤ j) → (s : ℕ) × (s < size n) × Of n s j
+    at earlier (inl b) = earlier b
+    at earlier (inr b) = (k, omega arith, (omega (arith, r k (omega arith) .0), h))
+
+-- so every edge is some state's
+pub owner : (g : Graph) (j : ℕ) → j < length (net (g .lists) .edges) → (s : ℕ) × (s < size (net (g .lists))) × Of (net (g .lists)) s j
+owner g j l =
+    let n = net (g .lists) in
+    let e : suc (size n - 1) ≡ size n = omega (arith, some-states g) in
+    owner-before n (runs-of g) j (size n) (omega arith) (subst (λ k. j < end-before (n .states) k) e (omega (arith, sound-of g .used-up)))
+
+-- the label of an edge fits the net
+abbrev pub Label-fits : Net → TransitionKind → Type 0
+Label-fits n Epsilon = Unit {0}
+Label-fits n (Range i) = interval-fits n i ≡ true
+Label-fits n (Rule r f) = Unit {0}
+Label-fits n Predicate = Unit {0}
+Label-fits n (Atom l) = interval-fits n (from-to l l) ≡ true
+Label-fits n Action = Unit {0}
+Label-fits n (Set f c) = set-fits n f c ≡ true
+Label-fits n (NotSet f c) = set-fits n f c ≡ true
+Label-fits n Wildcard = Unit {0}
+Label-fits n Precedence = Unit {0}
+
+kind-label : (n : Net) (s t : ℕ) (k : TransitionKind) → kind-fits n s t k ≡ true → Label-fits n k
+kind-label n s t Epsilon h = tt
+kind-label n s t (Range i) h = or-right (eof-only i) _ (and-parts (in-rule n t (stateAt n s .rule)) (range-fits n i) h .1)
+kind-label n s t (Rule r f) h = tt
+kind-label n s t Predicate h = tt
+kind-label n s t (Atom l) h = and-parts (in-rule n t (stateAt n s .rule)) (interval-fits n (from-to l l)) h .1
+kind-label n s t Action h = tt
+kind-label n s t (Set f c) h = and-parts (in-rule n t (stateAt n s .rule)) (set-fits n f c) h .1
+kind-label n s t (NotSet f c) h = and-parts (in-rule n t (stateAt n s .rule)) (set-fits n f c) h .1
+kind-label n s t Wildcard h = tt
+kind-label n s t Precedence h = tt
+
+pub label-fits : (g : Graph) (j : ℕ) → j < length (net (g .lists) .edges) → Label-fits (net (g .lists)) (edgeAt (net (g .lists)) j .kind)
+label-fits g j l =
+    let n = net (g .lists) in
+    let o = owner g j l in
+    kind-label n (o .0) (edgeAt n j .target) (edgeAt n j .kind) (sound-of g .states (o .0) (o .1) .edges j (o .2))

@@ -1,7 +1,7 @@
 ghost use mathlib.Core.Bool.{true};
 ghost use mathlib.Core.Path.{_≡_};
 ghost use Prim.Native.Nat.{_≤_};
-ghost use lib.ListN.{take};
+ghost use lib.ListN.{length, take};
 ghost use Rattle.interval_set.specs.Intervals.{rising};
 use crate::interval::Interval;
 
@@ -11,6 +11,7 @@ use crate::interval::Interval;
 pub struct IntervalSet {
     pub(crate) places: [Interval; 130],
     pub(crate) len: usize,
+    ghost whole: { length places ≡ 130 },
     ghost few: { len ≤ 130 },
     ghost rising: { rising (take len places) ≡ true },
 }
