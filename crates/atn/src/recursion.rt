@@ -59,7 +59,7 @@ fn is_recursive(g: &Graph, nulls: &Visits, s: usize) -> bool
 }
 
 // Whether a rule of the net is left-recursive.
-pub fn is_left_recursive(g: &Graph) -> bool
+pub(crate) fn is_left_recursive(g: &Graph) -> bool
     ensures { λ r. ⌜ Decides r (Left-recursion (net (now (g .entry) .lists))) ⌝ }
 {
     let nulls = nullable(g);

@@ -9,7 +9,7 @@ ghost use Rattle.atn.specs.Found.{found, noted};
 use crate::visits::Visits;
 
 impl Visits {
-    pub fn new() -> Visits
+    pub(crate) fn new() -> Visits
         ensures empty { λ r. ⌜ found r ≡ [] ⌝ }
     {
         Visits {
@@ -19,13 +19,13 @@ impl Visits {
         }
     }
 
-    pub fn len(&self) -> usize
+    pub(crate) fn len(&self) -> usize
         ensures { λ r. ⌜ r ≡ length (found (now (self .entry))) ⌝ }
     {
         self.len
     }
 
-    pub fn has(&self, k: usize) -> bool
+    pub(crate) fn has(&self, k: usize) -> bool
         ensures { λ r. ⌜ r ≡ elem k (found (now (self .entry))) ⌝ }
     {
         k < 512 && self.seen[k]
