@@ -165,7 +165,7 @@ impl IntervalSet {
     }
 
     // The intervals, rising.
-    pub fn iter(&self) -> &[Interval]
+    pub fn intervals(&self) -> &[Interval]
         ensures { λ r. ⌜ now r ≡ intervals (now (self .entry)) ⌝ }
     {
         &self.places[0..self.len]

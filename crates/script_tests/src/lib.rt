@@ -1,0 +1,5 @@
+// What the text of a script means, on examples.
+#[cfg(test)]
+mod damaged;
+#[cfg(test)]
+mod valid;
