@@ -3,7 +3,7 @@ use mathlib.Core.List.{List, [], _∷_}
 use mathlib.Core.Logic.{_⊎_, inl, inr}
 use Prim.Native.Nat.{ℕ}
 use Rattle.atn_graph.specs.Net.{Net}
-use Rattle.atn.specs.Walks.{Walk, Stop, Has-edge}
+use Rattle.atn.specs.Walks.{Walk}
 use Rattle.atn.specs.Reach.{Null, Step, Reaches}
 
 -- k is reached from s, or from a state of the pile with all above it null

@@ -1,17 +1,17 @@
 -- What an edge leads to, once its states are noted.
 use mathlib.Core.List.{List}
 use mathlib.Core.Logic.{_⊎_, inl, inr}
-use mathlib.Core.Path.{_≡_, refl, sym, ap, subst, _∙_}
+use mathlib.Core.Path.{_≡_, sym, subst}
 use Prim.Native.Nat.{ℕ}
 use Rattle.atn_graph.specs.declared.transition.Move.{Move}
-use Rattle.atn_graph.specs.declared.transition.Move.the-variants.{Along, Call, Token}
+use Rattle.atn_graph.specs.declared.transition.Move.the-variants.{Along, Call}
 use Rattle.atn_graph.specs.declared.transition.Transition.{Transition}
 use Rattle.atn_graph.specs.Kinds.{move-of}
 use Rattle.atn_graph.specs.Net.{Net}
 use Rattle.atn.specs.Marks.{Grown}
 use Rattle.atn.specs.Found.{noted}
 use Rattle.atn.specs.Reach.{Null, Leads, Leads-by}
-use Rattle.atn.proofs.Growth.{grown-none, grown-like, grown-both, grown-noted}
+use Rattle.atn.proofs.Growth.{grown-like, grown-both, grown-noted}
 
 module _ (n : Net) (e d : Transition) (same : e ≡ d) (xs : List ℕ) where
   by-move : (m : Move) (ys : List ℕ) → m ≡ move-of (e .kind) → Grown (Leads-by n (e .target) m) xs ys → Grown (Leads n d) xs ys
@@ -38,6 +38,3 @@ module _ (n : Net) (e d : Transition) (same : e ≡ d) (xs : List ℕ) where
       only : (k : ℕ) → (e .target ≡ k) ⊎ (Null n (e .target) × (f ≡ k)) → (e .target ≡ k) ⊎ (f ≡ k)
       only k (inl h) = inl h
       only k (inr h) = inr (h .1)
-
-  pub token-noted : Token ≡ move-of (e .kind) → Grown (Leads n d) xs xs
-  token-noted is = by-move Token xs is (grown-none xs (λ k h. absurd h))

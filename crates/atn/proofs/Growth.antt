@@ -1,29 +1,21 @@
 -- How lists of states grow.
-use mathlib.Core.Bool.{Bool, true, false, cond, _||_}
+use mathlib.Core.Bool.{true, false, _||_, or-false, or-assoc}
 use mathlib.Core.List.{List, [], _∷_, _++_}
 use mathlib.Core.Logic.{_⊎_, inl, inr}
 use mathlib.Core.Path.{_≡_, refl, sym, ap, subst, _∙_}
-use Prim.Native.Nat.{ℕ, zero, suc, _+_, _<_, _≤_}
+use Prim.Native.Nat.{ℕ, zero, suc, _+_, _<_}
 use lib.Dec.{eqb}
 use lib.ListN.{length, getD}
 use native.Mathlib.Omega.{arith}
 use Rattle.std.proofs.shelf.Lists.{getD-append-left, length-push}
-use Rattle.std.proofs.shelf.Tests.{or-cases, or-left, or-right, eq-eqb, eqb-true, both-ways, cases-bool, cond-true, cond-false, cases-eq}
+use Rattle.std.proofs.shelf.Tests.{or-cases, or-left, or-right, eq-eqb, eqb-true, both-ways, cases-bool, cond-true, cond-false}
 use Rattle.atn.specs.Marks.{elem, Grown}
 use Rattle.atn.specs.Found.{noted}
 
 -- one more at the end
 pub elem-push : (k x : ℕ) (xs : List ℕ) → elem k (xs ++ x ∷ []) ≡ (elem k xs || eqb k x)
 elem-push k x [] = or-false (eqb k x)
-  where
-    or-false : (b : Bool) → (b || false) ≡ b
-    or-false true = refl
-    or-false false = refl
-elem-push k x (y ∷ xs) = ap (λ b. eqb k y || b) (elem-push k x xs) ∙ assoc (eqb k y) (elem k xs) (eqb k x)
-  where
-    assoc : (a b c : Bool) → (a || (b || c)) ≡ ((a || b) || c)
-    assoc true b c = refl
-    assoc false b c = refl
+elem-push k x (y ∷ xs) = ap (λ b. eqb k y || b) (elem-push k x xs) ∙ sym (or-assoc (eqb k y) (elem k xs) (eqb k x))
 
 -- what stands at a place of a list is in it, and what is in it stands at a place
 pub elem-at : (xs : List ℕ) (i : ℕ) → i < length xs → elem (getD xs i 0) xs ≡ true

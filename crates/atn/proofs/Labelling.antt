@@ -1,12 +1,12 @@
 -- The intervals of a checked net can go into a set.
-use mathlib.Core.Bool.{Bool, true, false, _&&_, _||_}
+use mathlib.Core.Bool.{true, false, _||_, or-false, or-assoc}
 use mathlib.Core.List.{List, [], _∷_, _++_}
-use mathlib.Core.Logic.{_⊎_, inl, inr}
-use mathlib.Core.Path.{_≡_, refl, sym, ap, subst, _∙_}
+use mathlib.Core.Logic.{inl, inr}
+use mathlib.Core.Path.{_≡_, sym, ap, _∙_}
 use Prim.Native.Nat.{ℕ, _+_, _<_, _≤_}
 use lib.Dec.{leb}
 use lib.IntN.{ℤ, pos, negsuc}
-use lib.ListN.{length, getD, take, drop}
+use lib.ListN.{length, getD, take}
 use lib.Signed.{_≤ℤ_, leZ, ltZ}
 use native.Mathlib.Omega.{arith}
 use Rattle.std.proofs.shelf.Lists.{take-more}
@@ -54,17 +54,9 @@ pub added : (before : IntervalSet) (i : Interval) (r : Result (Unit {0}) Denial)
 added before i (Ok u) after w e = w .1
 added before i (Err d) after w e = absurd (both-ways _ (w .0) e)
 
-pub has-push : (is : List Interval) (i : Interval) (x : ℤ) → has (is ++ i ∷ []) x ≡ (has is x || inside i x)
+has-push : (is : List Interval) (i : Interval) (x : ℤ) → has (is ++ i ∷ []) x ≡ (has is x || inside i x)
 has-push [] i x = or-false (inside i x)
-  where
-    or-false : (b : Bool) → (b || false) ≡ b
-    or-false true = refl
-    or-false false = refl
-has-push (j ∷ is) i x = ap (λ b. inside j x || b) (has-push is i x) ∙ assoc (inside j x) (has is x) (inside i x)
-  where
-    assoc : (a b c : Bool) → (a || (b || c)) ≡ ((a || b) || c)
-    assoc true b c = refl
-    assoc false b c = refl
+has-push (j ∷ is) i x = ap (λ b. inside j x || b) (has-push is i x) ∙ sym (or-assoc (inside j x) (has is x) (inside i x))
 
 pub has-more : (is : List Interval) (k : ℕ) (d : Interval) (x : ℤ) → k < length is → has (take (k + 1) is) x ≡ (has (take k is) x || inside (getD is k d) x)
 has-more is k d x l = ap (λ ys. has ys x) (take-more is k d l) ∙ has-push (take k is) (getD is k d) x

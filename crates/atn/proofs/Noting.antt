@@ -1,13 +1,13 @@
 -- One state more among those found.
-use mathlib.Core.Bool.{Bool, true, false, not, cond, _||_}
-use mathlib.Core.List.{List, [], _∷_, _++_}
+use mathlib.Core.Bool.{Bool, true, false, not, cond, _||_, or-false}
+use mathlib.Core.List.{List}
 use mathlib.Core.Logic.{_⊎_, inl, inr}
 use mathlib.Core.Path.{_≡_, refl, sym, ap, subst, _∙_}
-use Prim.Native.Nat.{ℕ, zero, suc, _+_, _-_, _<_, _≤_}
+use Prim.Native.Nat.{ℕ, zero, suc, _+_, _-_, _<_}
 use lib.Dec.{eqb}
 use lib.ListN.{length, getD, set, take, replicate}
 use native.Mathlib.Omega.{arith}
-use Rattle.std.proofs.shelf.Lists.{length-set, getD-set-same, getD-set-other, take-more-set}
+use Rattle.std.proofs.shelf.Lists.{getD-set-same, getD-set-other, take-more-set}
 use Rattle.std.proofs.shelf.Sums.{sumBy-set}
 use Rattle.std.proofs.shelf.Tests.{cases-eq, eq-eqb, ne-eqb, or-right}
 use Rattle.atn.specs.Marks.{elem, unmarked}
@@ -29,10 +29,6 @@ pub agree-more : (seen : List Bool) (order : List ℕ) (len k : ℕ) → k < len
     → ((j : ℕ) → getD seen j false ≡ elem j (take len order)) → (j : ℕ) → getD (set seen k true) j false ≡ elem j (take (len + 1) (set order len k))
 agree-more seen order len k l m a j = at (cases-eq j k) ∙ sym (ap (elem j) (take-more-set order len k m) ∙ elem-push j k (take len order))
   where
-    or-false : (b : Bool) → b ≡ (b || false)
-    or-false true = refl
-    or-false false = refl
-
     at : (j ≡ k) ⊎ (j ≡ k → ⊥) → getD (set seen k true) j false ≡ (elem j (take len order) || eqb j k)
     at (inl e) = subst (λ x. getD (set seen k true) x false ≡ true) (sym e) (getD-set-same seen k true false l) ∙ sym (or-right (elem j (take len order)) (eqb j k) (eq-eqb j k e))
-    at (inr ne) = getD-set-other seen k j true false ne ∙ a j ∙ or-false (elem j (take len order)) ∙ ap (λ b. elem j (take len order) || b) (sym (ne-eqb j k ne))
+    at (inr ne) = getD-set-other seen k j true false ne ∙ a j ∙ sym (or-false (elem j (take len order))) ∙ ap (λ b. elem j (take len order) || b) (sym (ne-eqb j k ne))

@@ -1,5 +1,5 @@
 -- Passes that add null states, until one adds nothing.
-use mathlib.Core.Bool.{Bool, true, false, cond, _&&_}
+use mathlib.Core.Bool.{true, false}
 use mathlib.Core.List.{List, [], _∷_, _++_}
 use mathlib.Core.Logic.{_⊎_, inl, inr}
 use mathlib.Core.Path.{_≡_, refl, sym, ap, subst, _∙_}
@@ -11,12 +11,12 @@ use Rattle.std.proofs.shelf.Tests.{cases-bool, cases-eq, cases-lt, and-parts, a
 use Rattle.atn_graph.specs.declared.transition.Move.{Move}
 use Rattle.atn_graph.specs.declared.transition.Move.the-variants.{Along, Call, Token}
 use Rattle.atn_graph.specs.Kinds.{move-of, is-stop}
-use Rattle.atn_graph.specs.Net.{Net, size, no-state, stateAt, edgeAt}
-use Rattle.atn.specs.Walks.{Stop, Has-edge}
+use Rattle.atn_graph.specs.Net.{Net, size, no-state, edgeAt}
+use Rattle.atn.specs.Walks.{Has-edge}
 use Rattle.atn.specs.Marks.{elem}
 use Rattle.atn.specs.Found.{noted}
 use Rattle.atn.specs.Reach.{Null, Knows-null}
-use Rattle.atn.specs.Passes.{over-by, over-listed, Over-among, Falls, All-null, Pass}
+use Rattle.atn.specs.Passes.{over-by, Falls, All-null, Pass}
 use Rattle.atn.proofs.Growth.{grown-noted}
 use Rattle.atn.proofs.Steps.{no-edges}
 

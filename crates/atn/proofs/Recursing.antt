@@ -1,9 +1,8 @@
 -- Left recursion is a call of the start state at a state that it reaches.
-use mathlib.Core.Bool.{Bool, true, false}
+use mathlib.Core.Bool.{true, false}
 use mathlib.Core.List.{List, []}
 use mathlib.Core.Path.{_≡_, refl, sym, ap, subst, _∙_}
-use Prim.Native.Nat.{ℕ, _<_, _≤_}
-use lib.Dec.{eqb}
+use Prim.Native.Nat.{ℕ, _<_}
 use lib.ListN.{length, getD}
 use Rattle.std.proofs.shelf.Tests.{eq-eqb, eqb-true, both-ways}
 use Rattle.atn_graph.specs.declared.transition.Move.{Move}
@@ -11,7 +10,6 @@ use Rattle.atn_graph.specs.declared.transition.Move.the-variants.{Along, Call, 
 use Rattle.atn_graph.specs.Kinds.{move-of}
 use Rattle.atn_graph.specs.Net.{Net, edgeAt}
 use Rattle.atn.specs.Walks.{Has-edge, Left-recursive-from}
-use Rattle.atn.specs.Marks.{elem}
 use Rattle.atn.specs.Reach.{Knows-reached}
 use Rattle.atn.specs.Calls.{calls-by, Calls, Called}
 use Rattle.atn.proofs.Growth.{elem-at, place-of}

@@ -1,12 +1,12 @@
 -- A search that visits each state found, in the order of finding.
-use mathlib.Core.Bool.{Bool, true, false}
-use mathlib.Core.List.{List, [], _∷_}
+use mathlib.Core.Bool.{true, false}
+use mathlib.Core.List.{List, []}
 use mathlib.Core.Logic.{_⊎_, inl, inr}
 use mathlib.Core.Path.{_≡_, refl, sym, ap, subst, _∙_}
 use Prim.Native.Nat.{ℕ, _+_, _<_, _≤_}
 use lib.ListN.{length, getD}
 use native.Mathlib.Omega.{arith}
-use Rattle.std.proofs.shelf.Tests.{cases-eq, or-cases, eqb-true, both-ways}
+use Rattle.std.proofs.shelf.Tests.{cases-eq, both-ways}
 use Rattle.atn_graph.specs.declared.graph.Graph.{Graph}
 use Rattle.atn_graph.specs.Net.{Net, net, size}
 use Rattle.atn.specs.Marks.{elem, Grown}

@@ -1,8 +1,7 @@
 -- A step is what one of the state's edges leads to.
 use mathlib.Core.Logic.{_⊎_, inl, inr}
-use mathlib.Core.Path.{_≡_, refl, sym, ap, subst, _∙_}
+use mathlib.Core.Path.{_≡_, refl, sym, subst}
 use Prim.Native.Nat.{ℕ, _+_, _<_, _≤_}
-use lib.ListN.{length}
 use native.Mathlib.Omega.{arith}
 use Rattle.std.proofs.shelf.Lists.{getD-past}
 use Rattle.std.proofs.shelf.Tests.{cases-eq, cases-lt}
@@ -12,7 +11,6 @@ use Rattle.atn_graph.specs.declared.transition.Move.the-variants.{Along, Call, 
 use Rattle.atn_graph.specs.Kinds.{move-of}
 use Rattle.atn_graph.specs.Net.{Net, net, size, Of, no-state, stateAt, edgeAt}
 use Rattle.atn_graph.proofs.Inside.{target-inside, follow-inside}
-use Rattle.atn.specs.Walks.{Has-edge}
 use Rattle.atn.specs.Reach.{Null, Step, Reaches, Leads, Leads-by, Leads-among}
 
 module _ (n : Net) (s k : ℕ) where

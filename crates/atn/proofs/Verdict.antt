@@ -1,6 +1,6 @@
 -- The verdict on tables, with left recursion.
-use mathlib.Core.Path.{_≡_, subst, sym}
-use Prim.Native.Nat.{ℕ, _<_, _≤_}
+use mathlib.Core.Path.{subst}
+use Prim.Native.Nat.{_<_, _≤_}
 use native.Mathlib.Omega.{arith}
 use Rattle.errors.specs.declared.denial.Denial.{Denial}
 use Rattle.errors.specs.declared.denial.Denial.the-variants.{ShortTable, OutsideLimits, BrokenRule, LeftRecursion, SetValue}

@@ -1,6 +1,6 @@
 -- The states that walks come to, without piles: a walk never looks below the top of its pile.
 use mathlib.Core.Bool.{true}
-use mathlib.Core.List.{List, [], _∷_}
+use mathlib.Core.List.{List}
 use mathlib.Core.Logic.{_⊎_}
 use mathlib.Core.Path.{_≡_}
 use Prim.Native.Nat.{ℕ, _<_, _≤_}
@@ -8,7 +8,7 @@ use Rattle.atn_graph.specs.declared.transition.Move.{Move}
 use Rattle.atn_graph.specs.declared.transition.Move.the-variants.{Along, Call, Token}
 use Rattle.atn_graph.specs.declared.transition.Transition.{Transition}
 use Rattle.atn_graph.specs.Kinds.{move-of}
-use Rattle.atn_graph.specs.Net.{Net, edgeAt, Of}
+use Rattle.atn_graph.specs.Net.{Net, edgeAt}
 use Rattle.atn.specs.Walks.{Stop, Has-edge}
 use Rattle.atn.specs.Marks.{elem}
 

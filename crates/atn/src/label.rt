@@ -1,12 +1,10 @@
 // The labels of edges: the token types that an edge takes.
-ghost use mathlib.Core.Bool.{true, _&&_, not};
+ghost use mathlib.Core.Bool.{true};
 ghost use mathlib.Core.Path.{_≡_};
-ghost use Prim.Native.Nat.{ℕ, _+_, _≤_};
 ghost use lib.IntN.{ℤ};
-ghost use lib.ListN.{length};
-ghost use Rattle.interval_set.specs.Intervals.{from-to, inside, has};
+ghost use Rattle.interval_set.specs.Intervals.{inside, has};
 ghost use Rattle.interval_set.specs.Members.{holds};
-ghost use Rattle.atn_graph.specs.Rules.{part, range-fits, interval-fits, set-fits};
+ghost use Rattle.atn_graph.specs.Rules.{part, interval-fits, set-fits};
 ghost use Rattle.atn.specs.Checked.{netOf};
 ghost use Rattle.atn.specs.Labels.{is-type, takes, Labels};
 use crate::atn::Atn;

@@ -1,6 +1,6 @@
 // The null states: those from which a walk on an empty pile can end on a stop state.
 ghost use mathlib.Core.Path.{_≡_};
-ghost use Prim.Native.Nat.{ℕ, _<_, _≤_};
+ghost use Prim.Native.Nat.{_<_};
 ghost use lib.ListN.{length};
 ghost use Rattle.std.specs.Orderings.{Decides};
 ghost use Rattle.atn_graph.specs.Net.{net, size, edgeAt};

@@ -1,6 +1,6 @@
 // Which states a state reaches.
 ghost use mathlib.Core.Path.{_≡_};
-ghost use Prim.Native.Nat.{ℕ, _<_, _≤_};
+ghost use Prim.Native.Nat.{_<_};
 ghost use lib.ListN.{length};
 ghost use Rattle.atn_graph.specs.Net.{net, size, Of, ruleAt, stateAt, edgeAt};
 ghost use Rattle.atn.specs.Marks.{Grown};

@@ -1,8 +1,7 @@
 // What is asked of the states found, and how one more is noted.
-ghost use mathlib.Core.Bool.{cond};
-ghost use mathlib.Core.List.{[], _∷_, _++_};
+ghost use mathlib.Core.List.{[]};
 ghost use mathlib.Core.Path.{_≡_};
-ghost use Prim.Native.Nat.{_<_, _≤_};
+ghost use Prim.Native.Nat.{_<_};
 ghost use lib.ListN.{length, getD};
 ghost use Rattle.atn.specs.Marks.{elem};
 ghost use Rattle.atn.specs.Found.{found, noted};

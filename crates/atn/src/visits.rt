@@ -1,7 +1,7 @@
 // The states that a search has found, in the order in which it found them.
 ghost use mathlib.Core.Bool.{false};
 ghost use mathlib.Core.Path.{_≡_};
-ghost use Prim.Native.Nat.{ℕ, _+_, _≤_};
+ghost use Prim.Native.Nat.{ℕ, _+_};
 ghost use lib.ListN.{take, getD, length};
 ghost use Rattle.atn.specs.Marks.{elem, unmarked};
 

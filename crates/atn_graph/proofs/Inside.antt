@@ -1,7 +1,7 @@
 -- What a checked graph names lies inside it.
-use mathlib.Core.Bool.{Bool, true, false, _&&_}
+use mathlib.Core.Bool.{true, _&&_}
 use mathlib.Core.Logic.{_⊎_, inl, inr}
-use mathlib.Core.Path.{_≡_, refl, sym, ap, subst, _∙_}
+use mathlib.Core.Path.{_≡_, sym, subst}
 use Prim.Native.Nat.{ℕ, zero, suc, _+_, _-_, _<_, _≤_}
 use lib.Dec.{eqb, ltb}
 use lib.IntN.{pos}
@@ -20,7 +20,7 @@ use Rattle.atn_graph.specs.Kinds.{move-of}
 use Rattle.atn_graph.specs.Tables.{outside, counts-outside}
 use Rattle.atn_graph.specs.Net.{Net, net, size, Of, Runs, end-before, ruleAt, stateAt, edgeAt}
 use Rattle.atn_graph.specs.Rules.{Sound, in-rule, eof-only, range-fits, interval-fits, set-fits, kind-fits, counts-of}
-use Rattle.atn_graph.proofs.Sizes.{size-is, rules-length, edges-length}
+use Rattle.atn_graph.proofs.Sizes.{size-is}
 use Rattle.atn_graph.proofs.Runs.{ends-rise}
 use Rattle.atn_graph.proofs.Soundness.{sound-of, runs-of}
 

@@ -1,11 +1,10 @@
 -- Rows write at most one net: each number is read in one way.
 use mathlib.Core.List.{List, [], _∷_}
 use mathlib.Core.Path.{_≡_, refl, sym, ap, subst, _∙_}
-use Prim.Native.Nat.{ℕ, zero, suc, _+_, _-_, _<_, _≤_}
+use Prim.Native.Nat.{ℕ, zero, suc, _-_, _<_, _≤_}
 use lib.IntN.{ℤ, pos, negsuc}
-use lib.ListN.{length, getD}
+use lib.ListN.{getD}
 use native.Mathlib.Omega.{arith}
-use Rattle.interval_set.specs.declared.interval.Interval.{Interval}
 use Rattle.interval_set.specs.Intervals.{from-to}
 use Rattle.atn_graph.specs.declared.tables.StateRow.{StateRow}
 use Rattle.atn_graph.specs.declared.tables.EdgeRow.{EdgeRow}

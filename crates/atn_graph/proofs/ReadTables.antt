@@ -12,7 +12,7 @@ use Rattle.atn_graph.specs.declared.atn_state.AtnState.{AtnState}
 use Rattle.atn_graph.specs.declared.lists.Rule.{Rule}
 use Rattle.atn_graph.specs.declared.transition.Transition.{Transition}
 use Rattle.atn_graph.specs.Tables.{Rows}
-use Rattle.atn_graph.specs.Net.{Net, no-rule, no-state, no-edge, end-before}
+use Rattle.atn_graph.specs.Net.{no-rule, no-state, no-edge, end-before}
 use Rattle.atn_graph.specs.Written.{Writes, rule-row, no-rule-row, Writes-state, no-state-row, Writes-edge, no-edge-row}
 use Rattle.atn_graph.specs.Reading.{Rules-read, States-read, Edges-read}
 

@@ -1,9 +1,8 @@
 -- Runs of edges that follow one another.
-use mathlib.Core.Path.{_≡_, refl, sym, ap, subst, _∙_}
+use mathlib.Core.Path.{_≡_, subst}
 use Prim.Native.Nat.{ℕ, zero, suc, _+_, _-_, _<_, _≤_}
 use native.Mathlib.Omega.{arith}
-use native.Mathlib.Numerals.{add-one}
-use Rattle.atn_graph.specs.Net.{Net, Runs, size, stateAt, end-before}
+use Rattle.atn_graph.specs.Net.{Net, Runs, size, stateAt}
 
 ends-rise-by : (n : Net) → Runs n → (s d : ℕ) → s + d < size n → stateAt n s .end ≤ stateAt n (s + d) .end
 ends-rise-by n r s zero l = let e : s ≡ s + 0 = omega arith in subst (λ k. stateAt n s .end ≤ stateAt n k .end) e (omega arith)

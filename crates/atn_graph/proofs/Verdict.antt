@@ -1,9 +1,7 @@
 -- Tables write at most one net, so the net that was read is the one that the verdict is about.
-use mathlib.Core.Bool.{Bool, true, false, _||_}
-use mathlib.Core.List.{List}
-use mathlib.Core.Path.{_≡_, refl, sym, ap, subst, _∙_}
-use Prim.Native.Nat.{ℕ, _<_}
-use lib.IntN.{ℤ, pos}
+use mathlib.Core.Bool.{true, false, _||_}
+use mathlib.Core.Path.{_≡_, sym, ap, subst, _∙_}
+use Prim.Native.Nat.{_<_}
 use lib.ListN.{length, getD, take}
 use native.Mathlib.Omega.{arith}
 use Rattle.std.proofs.shelf.Lists.{ext-getD}
@@ -13,8 +11,8 @@ use Rattle.errors.specs.declared.denial.Denial.the-variants.{ShortTable, Outsid
 use Rattle.errors.specs.Denials.{denial-number, First}
 use Rattle.atn_graph.specs.declared.lists.Rule.{Rule}
 use Rattle.atn_graph.specs.Tables.{Rows, short-table, outside-limits, counts-outside, outside}
-use Rattle.atn_graph.specs.Net.{Net, Runs, size, no-rule, no-state, no-edge, ruleAt, stateAt, edgeAt, end-before}
-use Rattle.atn_graph.specs.Written.{Writes, rule-row, no-rule-row, no-edge-row}
+use Rattle.atn_graph.specs.Net.{Net, Runs, size, no-rule, no-state, no-edge, ruleAt, edgeAt}
+use Rattle.atn_graph.specs.Written.{Writes, rule-row, no-edge-row}
 use Rattle.atn_graph.specs.Rules.{Sound, counts-of, beyond-limits}
 use Rattle.atn_graph.specs.Faults.{Fault}
 use Rattle.atn_graph.proofs.ReadTables.{same-count}

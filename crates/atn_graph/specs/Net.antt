@@ -2,7 +2,7 @@
 use mathlib.Core.List.{List}
 use mathlib.Core.Path.{_≡_}
 use Prim.Native.Nat.{ℕ, zero, suc, _<_, _≤_}
-use lib.IntN.{ℤ, pos}
+use lib.IntN.{ℤ}
 use lib.ListN.{length, getD, take}
 use Rattle.interval_set.specs.declared.interval.Interval.{Interval}
 use Rattle.atn_graph.specs.declared.atn_state.StateKind.the-variants.{Basic}

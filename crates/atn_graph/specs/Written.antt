@@ -1,10 +1,8 @@
 -- Which net the tables write down, number for number.
-use mathlib.Core.List.{List}
 use mathlib.Core.Path.{_≡_}
 use Prim.Native.Nat.{ℕ, _-_, _<_, _≤_}
-use lib.IntN.{ℤ, pos}
+use lib.IntN.{pos}
 use lib.ListN.{length, getD, take}
-use Rattle.interval_set.specs.declared.interval.Interval.{Interval}
 use Rattle.atn_graph.specs.declared.tables.RuleRow.{RuleRow}
 use Rattle.atn_graph.specs.declared.tables.StateRow.{StateRow}
 use Rattle.atn_graph.specs.declared.tables.EdgeRow.{EdgeRow}

@@ -1,5 +1,4 @@
 // The check of a net's tables, up to left recursion.
-ghost use mathlib.Core.Path.{_≡_};
 ghost use Rattle.std.specs.Vec.{made};
 ghost use Rattle.errors.specs.Denials.{Denies-first};
 ghost use Rattle.atn_graph.specs.Tables.{rows};

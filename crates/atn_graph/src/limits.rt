@@ -1,6 +1,5 @@
 // Tables that are too short, and counts outside their limits.
 ghost use mathlib.Core.Path.{_≡_};
-ghost use lib.ListN.{length};
 ghost use Rattle.atn_graph.specs.Tables.{rows, shorter, short-table, outside, counts-outside, outside-limits};
 use crate::tables::Counts;
 use crate::tables::Tables;

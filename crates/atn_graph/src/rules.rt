@@ -1,12 +1,11 @@
 // The check of the rules of a net, on tables whose numbers are read.
 ghost use mathlib.Core.Path.{_≡_};
-ghost use Prim.Native.Nat.{ℕ, _-_, _<_, _≤_};
-ghost use lib.ListN.{length};
+ghost use Prim.Native.Nat.{_-_, _<_};
 ghost use Rattle.std.specs.Orderings.{Decides};
 ghost use Rattle.std.specs.Options.{Cases};
 ghost use Rattle.errors.specs.declared.denial.Denial.the-variants.{BrokenRule};
 ghost use Rattle.atn_graph.specs.Net.{Runs, net, ruleAt, stateAt, edgeAt};
-ghost use Rattle.atn_graph.specs.Rules.{in-rule, range-fits, interval-fits, set-fits, edge-fits, Rule-fits, Place-fits, State-fits, Sound};
+ghost use Rattle.atn_graph.specs.Rules.{in-rule, range-fits, interval-fits, set-fits, edge-fits, Rule-fits, Place-fits, Sound};
 use crate::atn_state::AtnState;
 use crate::lists::Lists;
 use crate::lists::Rule;

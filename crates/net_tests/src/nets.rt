@@ -5,7 +5,6 @@ use atn_graph::tables::EdgeRow;
 use atn_graph::tables::RuleRow;
 use atn_graph::tables::StateRow;
 use atn_graph::tables::Tables;
-use errors::denial::Denial;
 use errors::denial::DenialDebug;
 use errors::denial::DenialPartialEq;
 use interval_set::interval::Interval;

@@ -2,7 +2,6 @@
 use errors::denial::Denial;
 use errors::denial::DenialDebug;
 use errors::denial::DenialPartialEq;
-use interval_set::interval::Interval;
 use interval_set::ops::IntervalSetPartialEq;
 use interval_set::set::IntervalSet;
 use std::test::*;

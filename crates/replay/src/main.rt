@@ -8,11 +8,13 @@ use std::fs;
 use std::io;
 
 fn read_text(rt: &LibcRuntime) -> Result<String, AnyError> {
-    let text = match env::args(rt)?.nth(1) {
-        Some(path) => fs::read_to_string(rt, path.as_str())?,
-        None => io::read_to_string(rt.alloc(), rt.stdin())?,
+    let Some(path) = env::args(rt)?.nth(1) else {
+        return Ok(io::read_to_string(rt.alloc(), rt.stdin())?);
     };
-    Ok(text)
+    match fs::read_to_string(rt, path.as_str()) {
+        Ok(text) => Ok(text),
+        Err(error) => Err(format!(rt.alloc(), "{path}: {error}")?.into()),
+    }
 }
 
 fn run(rt: &LibcRuntime) -> Result<(), AnyError> {

@@ -1,11 +1,11 @@
 -- The tables of a script are those that it gives.
-use mathlib.Core.Path.{_≡_, refl, sym, subst}
+use mathlib.Core.Path.{_≡_, subst}
 use Rattle.std.specs.Vec.{made}
 use Rattle.std.specs.declared.result.Result.{Result}
 use Rattle.errors.specs.declared.denial.Denial.{Denial}
 use Rattle.errors.specs.Denials.{Denies-first}
 use Rattle.atn_graph.specs.declared.tables.Tables.{Tables}
-use Rattle.atn_graph.specs.Tables.{Rows, rows}
+use Rattle.atn_graph.specs.Tables.{rows}
 use Rattle.atn_graph.specs.Written.{Writes}
 use Rattle.atn.specs.declared.atn.Atn.{Atn}
 use Rattle.atn.specs.Checked.{netOf, Fault}

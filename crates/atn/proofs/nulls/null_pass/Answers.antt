@@ -1,6 +1,5 @@
-use mathlib.Core.List.{List}
-use mathlib.Core.Path.{_≡_, sym, ap, subst, _∙_}
-use Prim.Native.Nat.{ℕ, _+_}
+use mathlib.Core.Path.{sym, ap, subst, _∙_}
+use Prim.Native.Nat.{_+_}
 use Rattle.std.proofs.shelf.Tests.{both-ways}
 use Rattle.atn_graph.specs.Net.{net}
 use Rattle.atn.specs.Found.{found}

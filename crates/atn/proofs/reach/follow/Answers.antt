@@ -1,11 +1,10 @@
-use mathlib.Core.Path.{_≡_, sym, ap, _∙_}
+use mathlib.Core.Path.{sym, ap, _∙_}
 use native.Mathlib.Omega.{arith}
 use Rattle.std.proofs.shelf.Tests.{both-ways}
 use Rattle.atn_graph.specs.Kinds.{move-of}
 use Rattle.atn_graph.specs.Net.{net}
 use Rattle.atn_graph.proofs.Inside.{few-states, edge-inside, target-inside, follow-inside}
-use Rattle.atn.specs.Found.{found}
-use Rattle.atn.proofs.Following.{along-noted, call-noted, both-noted, token-noted}
+use Rattle.atn.proofs.Following.{along-noted, call-noted, both-noted}
 use Rattle.atn.proofs.reach.follow.Needs as need
 
 pub edge-e-requires : need.edge-e-requires

@@ -2,8 +2,8 @@ use mathlib.Core.Bool.{true}
 use mathlib.Core.Path.{_≡_, sym, subst}
 use Prim.Native.Nat.{_<_}
 use native.Mathlib.Omega.{arith}
-use lib.ListN.{length, getD}
-use Rattle.atn_graph.specs.Net.{net, size}
+use lib.ListN.{length}
+use Rattle.atn_graph.specs.Net.{net}
 use Rattle.atn.specs.Marks.{elem, Grown}
 use Rattle.atn.specs.Found.{found}
 use Rattle.atn.specs.Reach.{Step}

@@ -1,7 +1,7 @@
-use mathlib.Core.Path.{_≡_, sym, ap, subst, _∙_}
-use Prim.Native.Nat.{ℕ, _+_, _≤_}
+use mathlib.Core.Path.{_≡_, sym, ap, subst}
+use Prim.Native.Nat.{_≤_}
 use native.Mathlib.Omega.{arith}
-use Rattle.atn_graph.specs.Net.{net, stateAt, edgeAt}
+use Rattle.atn_graph.specs.Net.{net, stateAt}
 use Rattle.atn_graph.proofs.Soundness.{runs-of}
 use Rattle.atn.specs.Reach.{Leads-among}
 use Rattle.atn.proofs.Growth.{grown-none, grown-like, grown-both}

@@ -1,5 +1,5 @@
 use mathlib.Core.Path.{_≡_, _∙_, sym, subst}
-use Prim.Native.Nat.{_<_, _≤_, ℕ}
+use Prim.Native.Nat.{_<_, ℕ}
 use native.Mathlib.Omega.{arith}
 use lib.ListN.{length, getD}
 use Rattle.std.proofs.shelf.Lists.{length-set}

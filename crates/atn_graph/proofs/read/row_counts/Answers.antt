@@ -1,8 +1,4 @@
-use mathlib.Core.Bool.{false}
-use mathlib.Core.Path.{_≡_}
-use Prim.Native.Nat.{ℕ}
 use borrow.Author.Needs.{needs}
-use lib.IntN.{ℤ}
 use Rattle.std.proofs.shelf.Tests.{or-parts}
 use Rattle.atn_graph.specs.Tables.{outside}
 use Rattle.atn_graph.proofs.read.row_counts.Needs as need

@@ -1,12 +1,12 @@
 use mathlib.Core.Bool.{true, _||_}
 use mathlib.Core.Path.{_≡_, sym, ap, subst, _∙_}
-use Prim.Native.Nat.{_+_, _<_, _≤_}
+use Prim.Native.Nat.{_+_, _<_}
 use native.Mathlib.Omega.{arith}
 use lib.IntN.{pos}
 use lib.ListN.{length, getD, drop, take}
 use Rattle.std.proofs.shelf.Lists.{getD-take, getD-drop, length-drop}
 use Rattle.interval_set.specs.Intervals.{from-to, inside, has}
-use Rattle.atn_graph.specs.Rules.{part, interval-fits}
+use Rattle.atn_graph.specs.Rules.{interval-fits}
 use Rattle.atn_graph.proofs.Sizes.{intervals-length}
 use Rattle.atn_graph.proofs.Sets.{part-at}
 use Rattle.atn.specs.Checked.{netOf}

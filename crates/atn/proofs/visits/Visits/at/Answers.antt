@@ -1,7 +1,5 @@
-use mathlib.Core.Path.{sym, ap, _≡_}
-use Prim.Native.Nat.{_<_}
+use mathlib.Core.Path.{sym}
 use native.Mathlib.Omega.{arith}
-use lib.ListN.{length, take}
 use Rattle.std.proofs.shelf.Lists.{getD-take, length-take-le}
 use Rattle.atn.proofs.visits.Visits.at.Needs as need
 

@@ -1,10 +1,8 @@
-use mathlib.Core.Bool.{true, false}
-use mathlib.Core.Path.{_≡_, sym, ap, subst, _∙_}
-use Rattle.errors.specs.declared.denial.Denial.the-variants.{BrokenRule}
+use mathlib.Core.Bool.{false}
+use mathlib.Core.Path.{_≡_, sym, subst, _∙_}
 use Rattle.errors.specs.Denials.{First}
 use Rattle.errors.proofs.Firsts.{accepts, denies}
 use Rattle.atn_graph.specs.Tables.{rows, short-table, outside-limits}
-use Rattle.atn_graph.specs.Net.{net}
 use Rattle.atn_graph.specs.Faults.{Fault}
 use Rattle.atn_graph.proofs.Verdict.{runs-written, limits-written, first-short, first-outside, first-broken, no-fault, broken-once}
 use Rattle.atn_graph.proofs.graph.Graph.check.Needs as need

@@ -1,8 +1,8 @@
-use mathlib.Core.Path.{_≡_, refl, sym, ap, subst, _∙_}
-use Prim.Native.Nat.{ℕ, _+_, _-_, _<_, _≤_}
+use mathlib.Core.Path.{ap}
+use Prim.Native.Nat.{_-_}
 use borrow.Author.Count.{below-more}
 use native.Mathlib.Omega.{arith}
-use Rattle.atn_graph.specs.Net.{net, size, stateAt}
+use Rattle.atn_graph.specs.Net.{net}
 use Rattle.atn_graph.specs.Rules.{State-fits}
 use Rattle.atn_graph.proofs.Sizes.{size-is}
 use Rattle.atn_graph.proofs.Runs.{ends-rise}

@@ -1,9 +1,8 @@
 use mathlib.Core.Bool.{true}
 use mathlib.Core.Path.{_≡_}
 use Prim.Native.Nat.{ℕ, _-_, _<_, _≤_}
-use lib.ListN.{length}
-use Rattle.atn_graph.specs.Net.{net, size, stateAt, edgeAt}
-use Rattle.atn_graph.specs.Rules.{Rule-fits, Place-fits, State-fits, edge-fits}
+use Rattle.atn_graph.specs.Net.{net, stateAt, edgeAt}
+use Rattle.atn_graph.specs.Rules.{Rule-fits, State-fits, edge-fits}
 use Rattle.atn_graph.proofs.lists.Lists.fault.Given as given
 
 abbrev pub Inv-loop-r : given.InvT-loop-r

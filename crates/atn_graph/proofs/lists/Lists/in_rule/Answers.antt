@@ -1,7 +1,7 @@
-use mathlib.Core.Bool.{_&&_, true}
-use mathlib.Core.Path.{_≡_, sym, ap, _∙_}
+use mathlib.Core.Bool.{_&&_}
+use mathlib.Core.Path.{sym, ap, _∙_}
 use native.Mathlib.Omega.{arith}
-use lib.Dec.{eqb, ltb}
+use lib.Dec.{eqb}
 use Rattle.std.proofs.shelf.Tests.{lt-ltb, le-ltb, and-left}
 use Rattle.atn_graph.specs.Net.{net, size, stateAt}
 use Rattle.atn_graph.proofs.Sizes.{size-is}

@@ -1,15 +1,15 @@
-use mathlib.Core.Bool.{_&&_, true, false}
-use mathlib.Core.Path.{_≡_, refl, sym, ap, subst, _∙_}
-use Prim.Native.Nat.{_+_, _<_, _≤_}
+use mathlib.Core.Bool.{true, false}
+use mathlib.Core.Path.{_≡_, sym, ap, _∙_}
+use Prim.Native.Nat.{_+_, _<_}
 use native.Mathlib.Omega.{arith}
 use lib.Dec.{leb}
 use lib.IntN.{pos}
 use lib.ListN.{length, getD, drop}
 use Rattle.std.proofs.shelf.Lists.{getD-take, getD-drop, length-drop}
-use Rattle.std.proofs.shelf.Tests.{le-leb, and-right, and-from}
+use Rattle.std.proofs.shelf.Tests.{and-right}
 use Rattle.interval_set.specs.Intervals.{from-to}
 use Rattle.atn_graph.specs.Net.{net}
-use Rattle.atn_graph.specs.Rules.{interval-fits, all-fit, part, set-fits}
+use Rattle.atn_graph.specs.Rules.{interval-fits, part}
 use Rattle.atn_graph.proofs.Sizes.{intervals-length}
 use Rattle.atn_graph.proofs.Sets.{all-fit-more, one-unfit, part-length, part-at}
 use Rattle.atn_graph.proofs.lists.Lists.set_fits.Needs as need
