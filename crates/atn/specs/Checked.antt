@@ -1,16 +1,14 @@
 -- The checked net, when tables are denied one, and what it tells of itself.
+use mathlib.Core.List.{List}
 use mathlib.Core.Path.{_≡_}
 use Prim.Native.Nat.{ℕ, _<_, _≤_}
-use lib.ListN.{length}
+use lib.ListN.{length, getD}
 use Rattle.std.specs.Options.{Cases}
 use Rattle.std.specs.declared.option.Option.{Option}
 use Rattle.errors.specs.declared.denial.Denial.{Denial}
 use Rattle.errors.specs.declared.denial.Denial.the-variants.{ShortTable, OutsideLimits, BrokenRule, LeftRecursion, SetValue}
-use Rattle.atn_graph.specs.declared.atn_state.AtnState.{AtnState}
-use Rattle.atn_graph.specs.declared.lists.Rule.{Rule}
-use Rattle.atn_graph.specs.declared.transition.Transition.{Transition}
 use Rattle.atn_graph.specs.Tables.{Rows}
-use Rattle.atn_graph.specs.Net.{Net, net, size, ruleAt, stateAt, edgeAt}
+use Rattle.atn_graph.specs.Net.{Net, net}
 use Rattle.atn_graph.specs.Written.{Writes}
 use Rattle.atn_graph.specs.Faults.{Fault as Table-fault}
 use Rattle.atn.specs.declared.atn.Atn.{Atn}
@@ -27,12 +25,6 @@ Fault t BrokenRule = Table-fault t BrokenRule
 Fault t LeftRecursion = (n : Net) × Writes t n × Left-recursion n
 Fault t SetValue = ⊥
 
--- the row with that number, and none exactly past the last
-abbrev pub Picks-rule : Net → ℕ → Option Rule → Type 0
-Picks-rule n r x = Cases x (length (n .rules) ≤ r) (λ y. (r < length (n .rules)) × (y ≡ ruleAt n r))
-
-abbrev pub Picks-state : Net → ℕ → Option AtnState → Type 0
-Picks-state n s x = Cases x (size n ≤ s) (λ y. (s < size n) × (y ≡ stateAt n s))
-
-abbrev pub Picks-edge : Net → ℕ → Option Transition → Type 0
-Picks-edge n j x = Cases x (length (n .edges) ≤ j) (λ y. (j < length (n .edges)) × (y ≡ edgeAt n j))
+-- The one with that number, and none exactly past the last; d is what stands past the end of the list.
+abbrev pub Picks : {X : Type 0} → List X → X → ℕ → Option X → Type 0
+Picks xs d i r = Cases r (length xs ≤ i) (λ x. (i < length xs) × (x ≡ getD xs i d))

@@ -4,9 +4,9 @@ ghost use lib.ListN.{length};
 ghost use Rattle.std.specs.Vec.{made};
 ghost use Rattle.errors.specs.Denials.{Denies-first};
 ghost use Rattle.atn_graph.specs.Tables.{rows};
-ghost use Rattle.atn_graph.specs.Net.{size};
+ghost use Rattle.atn_graph.specs.Net.{size, no-rule, no-state, no-edge};
 ghost use Rattle.atn_graph.specs.Written.{Writes};
-ghost use Rattle.atn.specs.Checked.{netOf, Fault, Picks-rule, Picks-state, Picks-edge};
+ghost use Rattle.atn.specs.Checked.{netOf, Fault, Picks};
 use crate::atn::Atn;
 use crate::reach::edge;
 use crate::reach::rule;
@@ -64,7 +64,7 @@ impl Atn {
 
     // The rule number r, None past the last.
     pub fn rule(&self, r: usize) -> Option<Rule>
-        ensures { λ x. ⌜ Picks-rule (netOf (now (self .entry))) r x ⌝ }
+        ensures { λ x. ⌜ Picks (netOf (now (self .entry)) .rules) no-rule r x ⌝ }
     {
         if r < self.rule_count() {
             Some(rule(&self.graph, r))
@@ -75,7 +75,7 @@ impl Atn {
 
     // The state number s, None past the last.
     pub fn state(&self, s: usize) -> Option<AtnState>
-        ensures { λ x. ⌜ Picks-state (netOf (now (self .entry))) s x ⌝ }
+        ensures { λ x. ⌜ Picks (netOf (now (self .entry)) .states) no-state s x ⌝ }
     {
         if s < self.state_count() {
             Some(state(&self.graph, s))
@@ -86,7 +86,7 @@ impl Atn {
 
     // The edge number j, None past the last.
     pub fn edge(&self, j: usize) -> Option<Transition>
-        ensures { λ x. ⌜ Picks-edge (netOf (now (self .entry))) j x ⌝ }
+        ensures { λ x. ⌜ Picks (netOf (now (self .entry)) .edges) no-edge j x ⌝ }
     {
         if j < self.edge_count() {
             Some(edge(&self.graph, j))

@@ -85,9 +85,10 @@ pub record Sound (n : Net) : Type 0 where
   pub states : (s : ℕ) → s < size n → State-fits n s
   pub used-up : stateAt n (size n - 1) .end ≡ length (n .edges)
 
--- a count of the net or its largest type lies outside the limits
+-- the counts of the net's lists
 abbrev pub counts-of : Net → Counts
 counts-of n = record { rules = pos (length (n .rules)); states = pos (size n); edges = pos (length (n .edges)); intervals = pos (length (n .intervals)) }
 
+-- one of them, or the largest type, lies outside the limits
 abbrev pub beyond-limits : Net → Bool
 beyond-limits n = counts-outside (counts-of n) || outside 1 255 (n .max)
