@@ -2,4 +2,6 @@
 #[cfg(test)]
 mod damaged;
 #[cfg(test)]
+mod many;
+#[cfg(test)]
 mod valid;
