@@ -1,47 +1,21 @@
--- What is answered about a net, and how it is written.
-use Rattle.std.specs.Prelude.{◌≡◌, ℕ, List, [], ◌++◌, ℤ, IfOk, Some, None, Ok, Err, codes, decimal, Option, Result}
-use Rattle.std.specs.Option.{unwrap_or}
-use Rattle.errors.specs.Denials.{denial_number, DeniesFirst}
+-- What a script is answered.
+use Rattle.std.specs.Prelude.{◌≡◌, List, [], Some, None, Ok, Err, Option, Result}
 use Rattle.errors.specs.declared.denial.Denial.{Denial}
-use Rattle.atn_graph.specs.Tables.{Rows}
-use Rattle.atn_graph.specs.Written.{Writes}
 use Rattle.atn.specs.declared.atn.Atn.{Atn}
-use Rattle.atn.specs.Checked.{net_of, Fault}
+use Rattle.atn.specs.Checked.{net_of}
 use Rattle.interval_set.specs.declared.set.IntervalSet.{IntervalSet}
 use Rattle.script.specs.declared.question.Question.{Question}
-use Rattle.script.specs.Contents.{Content, row_counts}
+use Rattle.script.specs.Answers.{Answered, checked_net}
+use Rattle.script.specs.Contents.{Content}
 use Rattle.answers.specs.Asking.{EachAnswered}
-use Rattle.answers.specs.declared.answer.Answer.{Answer}
-use Rattle.answers.specs.declared.answer.Verdict.{Verdict}
-use Rattle.answers.specs.declared.answer.Verdict.TheVariants.{Accepted, Denied}
-
--- a net that was made is accepted
-abbrev pub verdict_of : Result Atn Denial → Verdict
-verdict_of (Ok n) = Accepted
-verdict_of (Err d) = Denied d
-
-abbrev pub verdict_text : Verdict → List ℕ
-verdict_text Accepted = codes "net ok"
-verdict_text (Denied d) = codes "net denied " ++ decimal (denial_number d)
-
--- the tables that the script gives, with m as the largest token type
-abbrev pub said_tables : Content → ℤ → Rows
-said_tables k m = record { max = m; counts = unwrap_or k.counts (row_counts k); rules = k.rules; states = k.states; edges = k.edges; intervals = k.intervals }
-
--- The script has m as its largest token type, and its tables are answered with the first denial that fits them, or with
--- the net that they write.
-pub record Checked (k : Content) (net : Result Atn Denial) : Type 0 where
-  pub m : ℤ
-  pub given : k.max ≡ Some m
-  pub verdict : DeniesFirst (Fault (said_tables k m)) net
-  pub written : IfOk net (λ n. Writes (said_tables k m) (net_of n))
+use Rattle.answers.specs.declared.answer.ScriptAnswer.{ScriptAnswer}
 
 -- Each question about an accepted net is answered; none about a denied one.
 abbrev pub SetsAnswered : Result Atn Denial → List Question → List (Result IntervalSet Denial) → Type 0
 SetsAnswered (Ok n) questions sets = EachAnswered (net_of n) questions sets
 SetsAnswered (Err d) questions sets = sets ≡ []
 
--- A script with a net line is answered, with a summary if it asks for one, and its questions are.
-abbrev pub Answered : Content → Option Answer → Type 0
-Answered k None = k.max ≡ None
-Answered k (Some a) = Checked k a.net × (a.summary ≡ k.summary) × (a.questions.now ≡ k.questions) × SetsAnswered a.net k.questions a.sets.items
+-- A script with a net line is answered about its net, and so are its questions.
+abbrev pub AllAnswered : Content → Option ScriptAnswer → Type 0
+AllAnswered k None = Answered k None
+AllAnswered k (Some a) = Answered k (Some a.about_net) × (a.questions.now ≡ k.questions) × SetsAnswered (checked_net a.about_net) k.questions a.sets.items

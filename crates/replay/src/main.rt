@@ -1,7 +1,7 @@
 // Reads a script, from the file that the first argument names or from standard input, and prints its answer.
 #![tactic(auto)]
 
-use answers::answer::Answer;
+use answers::answer::ScriptAnswer;
 use anyhow::anyhow;
 use script::parse::parse;
 use std::process::ExitCode;
@@ -20,7 +20,7 @@ fn read_text(rt: &HostRuntime) -> anyhow::Result<String> {
 fn run(rt: &HostRuntime) -> anyhow::Result<()> {
     let text = read_text(rt)?;
     let script = parse(rt.alloc(), text.as_str())?;
-    if let Some(answer) = Answer::of(rt.alloc(), &script)? {
+    if let Some(answer) = ScriptAnswer::of(rt.alloc(), &script)? {
         print!(rt; "{answer}")?;
     }
     Ok(())

@@ -15,7 +15,7 @@ pub enum Fault {
     WrongForm(Keyword),
     // the row's table is full
     FullTable,
-    // a row or an option after the first question
+    // no question, after the first question
     TooLate,
     // the script ends without a net line
     NoNet,
@@ -52,7 +52,7 @@ impl fmt::Display for Fault {
             Fault::UnknownWord => {
                 write!(
                     f,
-                    "expected net, counts, rule, state, edge, interval, summary, lookahead, within, in-context, expected or recovery"
+                    "expected net, counts, rule, state, edge, interval or summary"
                 )
             }
             Fault::WrongForm(keyword) => write!(f, "expected {keyword}"),

@@ -1,6 +1,8 @@
-// Scripts: the text form of a net and of what is asked about it, read into tables and questions.
+// Scripts: the text form of a net and of what is asked about it, read into tables and questions, and
+// what is answered about the net.
 #![tactic(auto)]
 
+pub mod answer;
 pub mod apply;
 pub mod directive;
 pub mod error;

@@ -12,9 +12,11 @@ use std::alloc::Global;
 fn take_line(heap: Global, script: &mut Script, line: &str) -> Result<(), Fault>
     ensures { IfErr result (λ f. f ≢ NoNet) }
 {
-    match Directive::read(heap, line)? {
-        Some(directive) => script.apply(directive),
-        None => Ok(()),
+    match Directive::read(heap, line) {
+        Ok(Some(directive)) => script.apply(directive),
+        Ok(None) => Ok(()),
+        Err(Fault::UnknownWord) if !script.questions().is_empty() => Err(Fault::TooLate),
+        Err(fault) => Err(fault),
     }
 }
 

@@ -83,19 +83,19 @@ const NO_NUMBER: [(&str, &str); 6] = [
 const UNKNOWN: [(&str, &str); 4] = [
     (
         "Net 1",
-        "line 1: expected net, counts, rule, state, edge, interval, summary, lookahead, within, in-context, expected or recovery",
+        "line 1: expected net, counts, rule, state, edge, interval or summary",
     ),
     (
         "net 1\nnets 1\n",
-        "line 2: expected net, counts, rule, state, edge, interval, summary, lookahead, within, in-context, expected or recovery",
+        "line 2: expected net, counts, rule, state, edge, interval or summary",
     ),
     (
         "net 1\n-\nrule",
-        "line 2: expected net, counts, rule, state, edge, interval, summary, lookahead, within, in-context, expected or recovery",
+        "line 2: expected net, counts, rule, state, edge, interval or summary",
     ),
     (
         "net 1\n7 # 8",
-        "line 2: expected net, counts, rule, state, edge, interval, summary, lookahead, within, in-context, expected or recovery",
+        "line 2: expected net, counts, rule, state, edge, interval or summary",
     ),
 ];
 
@@ -143,7 +143,11 @@ const NO_QUESTION: [(&str, &str); 8] = [
     ),
 ];
 
-const TOO_LATE: [(&str, &str); 4] = [
+const TOO_LATE: [(&str, &str); 5] = [
+    (
+        "net 1\nwithin 0\nwithn 1",
+        "line 3: expected a question: rows and options come before the first one",
+    ),
     (
         "net 1\nwithin 0\nrule 0 1",
         "line 3: expected a question: rows and options come before the first one",

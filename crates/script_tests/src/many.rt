@@ -1,5 +1,4 @@
 // Scripts with many rows.
-use answers::answer::Answer;
 use script::parse::parse;
 use std::alloc::{AllocError, Global};
 use std::test::*;
@@ -25,7 +24,7 @@ fn more_rows_than_a_net_may_have(rt: HostRuntime) -> Result<(), Fail> {
     ] {
         let text = script_of(heap, row, n)?;
         let script = parse(heap, text.as_str())?;
-        let Some(answer) = Answer::of(heap, &script)? else {
+        let Some(answer) = script.answer() else {
             return Err(Fail::new("no answer"));
         };
         assert_eq!(rt;
@@ -35,30 +34,6 @@ fn more_rows_than_a_net_may_have(rt: HostRuntime) -> Result<(), Fail> {
             row
         );
     }
-    Ok(())
-}
-
-// As many states as a net may have, and a table of all their sets.
-#[test]
-fn a_table_of_all_states(rt: HostRuntime) -> Result<(), Fail> {
-    let heap = rt.alloc();
-    let mut text = String::from_str(heap, "net 2\nlookahead table\nrule 0 511\nstate 0 2 1\n")?;
-    for _ in 0..510 {
-        text.push_str("state 0 1 1\n")?;
-    }
-    text.push_str("state 0 7 0\n")?;
-    for s in 0..510 {
-        text.push_str(format!(in heap; "edge 1 {} 0 0\n", s + 1)?.as_str())?;
-    }
-    text.push_str("edge 5 511 2 0\nwithin 0\nwithin 510\nwithin 511\nwithin 512\n")?;
-    let script = parse(heap, text.as_str())?;
-    let Some(answer) = Answer::of(heap, &script)? else {
-        return Err(Fail::new("no answer"));
-    };
-    assert_eq!(rt;
-        answer.to_string(heap)?.as_str(),
-        "net ok\nwithin 0: 2\nwithin 510: 2\nwithin 511: -2\nwithin 512: denied 8\n"
-    );
     Ok(())
 }
 

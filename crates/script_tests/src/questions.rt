@@ -1,5 +1,5 @@
 // Questions about the pass net, and what is printed for each.
-use answers::answer::Answer;
+use answers::answer::ScriptAnswer;
 use script::parse::parse;
 use std::alloc::Global;
 use std::process::Abort;
@@ -40,7 +40,7 @@ fn answered(rt: &impl Abort, heap: Global, option: &str) -> Result<(), Fail> {
     for (question, line) in ASKED {
         let text = format!(in heap; "{option}{PASS}{question}\n")?;
         let script = parse(heap, text.as_str())?;
-        let Some(answer) = Answer::of(heap, &script)? else {
+        let Some(answer) = ScriptAnswer::of(heap, &script)? else {
             return Err(Fail::new("no answer"));
         };
         let expected = format!(in heap; "net ok\n{line}\n")?;
@@ -69,7 +69,7 @@ fn by_the_cache(rt: HostRuntime) -> Result<(), Fail> {
 fn about_a_denied_net(rt: HostRuntime) -> Result<(), Fail> {
     let heap = rt.alloc();
     let script = parse(heap, "net 1\nwithin 0\nrecovery 0\n")?;
-    let Some(answer) = Answer::of(heap, &script)? else {
+    let Some(answer) = ScriptAnswer::of(heap, &script)? else {
         return Err(Fail::new("no answer"));
     };
     assert_eq!(rt; answer.to_string(heap)?.as_str(), "net denied 2\n");
@@ -82,7 +82,7 @@ fn of_a_state_that_takes_nothing(rt: HostRuntime) -> Result<(), Fail> {
     let heap = rt.alloc();
     let text = "net 2\nrule 0 1\nstate 0 2 1\nstate 0 7 0\nedge 8 1 0 1\ninterval 1 2\nwithin 0\n";
     let script = parse(heap, text)?;
-    let Some(answer) = Answer::of(heap, &script)? else {
+    let Some(answer) = ScriptAnswer::of(heap, &script)? else {
         return Err(Fail::new("no answer"));
     };
     assert_eq!(rt; answer.to_string(heap)?.as_str(), "net ok\nwithin 0: {}\n");
@@ -93,7 +93,7 @@ fn of_a_state_that_takes_nothing(rt: HostRuntime) -> Result<(), Fail> {
 fn set_of_the_start(rt: &impl Abort, heap: Global, rows: &str, expected: &str) -> Result<(), Fail> {
     let text = format!(in heap; "rule 0 1\nstate 0 2 {rows}within 0\n")?;
     let script = parse(heap, text.as_str())?;
-    let Some(answer) = Answer::of(heap, &script)? else {
+    let Some(answer) = ScriptAnswer::of(heap, &script)? else {
         return Err(Fail::new("no answer"));
     };
     assert_eq!(rt; answer.to_string(heap)?.as_str(), expected);
@@ -112,4 +112,28 @@ fn of_labels_that_join(rt: HostRuntime) -> Result<(), Fail> {
 fn of_an_edge_beside_another(rt: HostRuntime) -> Result<(), Fail> {
     let rows = "2\nstate 0 7 0\nedge 5 1 1 0\nedge 8 1 0 1\ninterval 1 1\nnet 2\n";
     set_of_the_start(&rt, rt.alloc(), rows, "net ok\nwithin 0: 1..2\n")
+}
+
+// As many states as a net may have, and a table of all their sets.
+#[test]
+fn a_table_of_all_states(rt: HostRuntime) -> Result<(), Fail> {
+    let heap = rt.alloc();
+    let mut text = String::from_str(heap, "net 2\nlookahead table\nrule 0 511\nstate 0 2 1\n")?;
+    for _ in 0..510 {
+        text.push_str("state 0 1 1\n")?;
+    }
+    text.push_str("state 0 7 0\n")?;
+    for s in 0..510 {
+        text.push_str(format!(in heap; "edge 1 {} 0 0\n", s + 1)?.as_str())?;
+    }
+    text.push_str("edge 5 511 2 0\nwithin 0\nwithin 510\nwithin 511\nwithin 512\n")?;
+    let script = parse(heap, text.as_str())?;
+    let Some(answer) = ScriptAnswer::of(heap, &script)? else {
+        return Err(Fail::new("no answer"));
+    };
+    assert_eq!(rt;
+        answer.to_string(heap)?.as_str(),
+        "net ok\nwithin 0: 2\nwithin 510: 2\nwithin 511: -2\nwithin 512: denied 8\n"
+    );
+    Ok(())
 }

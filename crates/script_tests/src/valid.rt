@@ -1,5 +1,4 @@
 // Texts that are scripts, and what they say.
-use answers::answer::Answer;
 use atn_graph::tables::{Counts, EdgeRow, RuleRow, StateRow};
 use interval_set::interval::Interval;
 use script::parse::parse;
@@ -107,7 +106,7 @@ fn an_empty_net_is_denied(rt: HostRuntime) -> Result<(), Fail> {
     let heap = rt.alloc();
     let script = parse(heap, "net 1\nsummary\n")?;
     assert!(rt; script.wants_summary());
-    let Some(answer) = Answer::of(heap, &script)? else {
+    let Some(answer) = script.answer() else {
         return Err(Fail::new("no answer"));
     };
     assert_eq!(rt; answer.to_string(heap)?.as_str(), "net denied 2\n");

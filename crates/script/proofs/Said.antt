@@ -8,7 +8,7 @@ use Rattle.atn_graph.specs.Written.{Writes}
 use Rattle.atn.specs.declared.atn.Atn.{Atn}
 use Rattle.atn.specs.Checked.{net_of, Fault}
 use Rattle.script.specs.Contents.{Content, ItsTables}
-use Rattle.answers.specs.Answers.{said_tables, Checked}
+use Rattle.script.specs.Answers.{said_tables, Checked}
 
 same_tables : (k : Content) (t : Tables) → ItsTables k t → rows t ≡ said_tables k t.max_token_type
 same_tables k t w i = record { max = t.max_token_type; counts = w.counts i; rules = w.rules i; states = w.states i; edges = w.edges i; intervals = w.intervals i }
