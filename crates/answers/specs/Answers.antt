@@ -6,6 +6,7 @@ use Rattle.atn.specs.Checked.{net_of}
 use Rattle.interval_set.specs.declared.set.IntervalSet.{IntervalSet}
 use Rattle.script.specs.declared.question.Question.{Question}
 use Rattle.script.specs.Answers.{Answered, checked_net}
+use Rattle.script.specs.Asking.{Asking}
 use Rattle.script.specs.Contents.{Content}
 use Rattle.answers.specs.Asking.{EachAnswered}
 use Rattle.answers.specs.declared.answer.ScriptAnswer.{ScriptAnswer}
@@ -16,6 +17,6 @@ SetsAnswered (Ok n) questions sets = EachAnswered (net_of n) questions sets
 SetsAnswered (Err d) questions sets = sets ≡ []
 
 -- A script with a net line is answered about its net, and so are its questions.
-abbrev pub AllAnswered : Content → Option ScriptAnswer → Type 0
-AllAnswered k None = Answered k None
-AllAnswered k (Some a) = Answered k (Some a.about_net) × (a.questions.now ≡ k.questions) × SetsAnswered (checked_net a.about_net) k.questions a.sets.items
+abbrev pub AllAnswered : Content → Asking → Option ScriptAnswer → Type 0
+AllAnswered k asks None = Answered k None
+AllAnswered k asks (Some a) = Answered k (Some a.about_net) × (a.questions.now ≡ asks.questions) × SetsAnswered (checked_net a.about_net) asks.questions a.sets.items

@@ -1,5 +1,6 @@
 ghost use Rattle.std.specs.Prelude.{IfOk};
 ghost use Rattle.answers.specs.Answers.{AllAnswered};
+ghost use Rattle.script.specs.Asking.{asking};
 ghost use Rattle.script.specs.Contents.{content};
 
 use crate::asking::answer_all;
@@ -23,7 +24,7 @@ pub struct ScriptAnswer<'a> {
 impl<'a> ScriptAnswer<'a> {
     // Checks the net and answers the questions; None without a net line.
     pub fn of(heap: Global, script: &'a Script) -> Result<Option<ScriptAnswer<'a>>, AllocError>
-        ensures { IfOk result (AllAnswered (content script.now)) }
+        ensures { IfOk result (AllAnswered (content script.now) (asking script.now)) }
     {
         let Some(about_net) = script.answer() else {
             return Ok(None);

@@ -13,8 +13,8 @@ use ll1_analyzer::sets::{
     get_error_recovery_set, get_expected_tokens, next_tokens, next_tokens_in_ctx,
 };
 use ll1_analyzer::table::Table;
-use script::directive::LookaheadKind;
 use script::question::{Ask, Question};
+use script::script_line::LookaheadKind;
 use std::alloc::{AllocError, Global};
 
 // What one question is answered.

@@ -5,7 +5,7 @@ use Rattle.atn_graph.specs.declared.graph.Graph.{Graph}
 use Rattle.atn_graph.specs.Net.{Net, net, size}
 use Rattle.atn.specs.Marks.{elem, Grown}
 use Rattle.atn.specs.Found.{noted}
-use Rattle.atn.specs.Reach.{StepOver, ReachesOver, KnowsReached}
+use Rattle.atn.specs.Reach.{StepOver, ReachesOver, KnowsReachedOver}
 use Rattle.atn.proofs.Growth.{grown_noted, elem_at, place_of}
 use Rattle.atn.proofs.Steps.{step_inside}
 
@@ -53,7 +53,7 @@ search_more N g s next a b l w gr = record {
         gr.keeps k (w.visited i k before inside (subst (λ x. StepOver N (net g.lists) x k) (gr.front i inside) e))
 
 -- all have been visited, so nothing more is reached
-pub search_end : (N : ℕ → Type 0) (g : Graph) (s next : ℕ) (xs : List ℕ) → length xs ≤ next → Search N g s next xs → KnowsReached N (net g.lists) s xs
+pub search_end : (N : ℕ → Type 0) (g : Graph) (s next : ℕ) (xs : List ℕ) → length xs ≤ next → Search N g s next xs → KnowsReachedOver N (net g.lists) s xs
 search_end N g s next xs l w k = (w.reached k, closed w.start)
   where
     stepped : (i j : ℕ) → elem i xs ≡ true → StepOver N (net g.lists) i j → elem j xs ≡ true

@@ -25,6 +25,9 @@ pub data ReachesOver (N : ℕ → Type 0) (n : Net) : ℕ → ℕ → Type 0 whe
   more : {s t k : ℕ} → StepOver N n s t → ReachesOver N n t k → ReachesOver N n s k
 
 -- over the rules that are null
+abbrev pub Step : Net → ℕ → ℕ → Type 0
+Step n = StepOver (Null n) n
+
 abbrev pub Reaches : Net → ℕ → ℕ → Type 0
 Reaches n = ReachesOver (Null n) n
 
@@ -32,26 +35,40 @@ Reaches n = ReachesOver (Null n) n
 abbrev pub Listed : List ℕ → ℕ → Type 0
 Listed xs k = elem k xs ≡ true
 
--- where an edge to t leads, by the move that it makes
-abbrev pub LeadsBy : (ℕ → Type 0) → ℕ → Move → ℕ → Type 0
-LeadsBy N t Along k = t ≡ k
-LeadsBy N t (Call f) k = (t ≡ k) ⊎ (N t × (f ≡ k))
-LeadsBy N t Token k = ⊥
+-- where an edge to t leads, by the move that it makes, over rules whose start states N tells of
+abbrev pub LeadsByOver : (ℕ → Type 0) → ℕ → Move → ℕ → Type 0
+LeadsByOver N t Along k = t ≡ k
+LeadsByOver N t (Call f) k = (t ≡ k) ⊎ (N t × (f ≡ k))
+LeadsByOver N t Token k = ⊥
 
-abbrev pub Leads : (ℕ → Type 0) → Transition → ℕ → Type 0
-Leads N e k = LeadsBy N e.target (move_of e.kind) k
+abbrev pub LeadsOver : (ℕ → Type 0) → Transition → ℕ → Type 0
+LeadsOver N e k = LeadsByOver N e.target (move_of e.kind) k
 
 -- one of the edges from number low up to number high leads to k
-pub record LeadsAmong (N : ℕ → Type 0) (n : Net) (low high k : ℕ) : Type 0 where
+pub record LeadsAmongOver (N : ℕ → Type 0) (n : Net) (low high k : ℕ) : Type 0 where
   pub number : ℕ
   pub from : low ≤ number
   pub below : number < high
-  pub leads : Leads N (edge_at n number) k
+  pub leads : LeadsOver N (edge_at n number) k
+
+-- the same over the rules that are null
+abbrev pub LeadsBy : Net → ℕ → Move → ℕ → Type 0
+LeadsBy n = LeadsByOver (Null n)
+
+abbrev pub Leads : Net → Transition → ℕ → Type 0
+Leads n = LeadsOver (Null n)
+
+abbrev pub LeadsAmong : Net → ℕ → ℕ → ℕ → Type 0
+LeadsAmong n = LeadsAmongOver (Null n) n
 
 -- the states of the list are exactly the null ones
 abbrev pub KnowsNull : Net → List ℕ → Type 0
-KnowsNull n xs = (k : ℕ) → ((Listed xs k → Null n k) × (Null n k → Listed xs k))
+KnowsNull n xs = (k : ℕ) → ((elem k xs ≡ true → Null n k) × (Null n k → elem k xs ≡ true))
 
 -- the states of the list are exactly those that s reaches
-abbrev pub KnowsReached : (ℕ → Type 0) → Net → ℕ → List ℕ → Type 0
-KnowsReached N n s xs = (k : ℕ) → ((Listed xs k → ReachesOver N n s k) × (ReachesOver N n s k → Listed xs k))
+abbrev pub KnowsReachedOver : (ℕ → Type 0) → Net → ℕ → List ℕ → Type 0
+KnowsReachedOver N n s xs = (k : ℕ) → ((Listed xs k → ReachesOver N n s k) × (ReachesOver N n s k → Listed xs k))
+
+-- exactly those that it reaches over the rules that are null
+abbrev pub KnowsReached : Net → ℕ → List ℕ → Type 0
+KnowsReached n = KnowsReachedOver (Null n) n

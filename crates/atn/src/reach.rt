@@ -3,7 +3,7 @@ ghost use Rattle.std.specs.Prelude.{◌≡◌, ◌<◌, ◌≤◌, [], length};
 ghost use Rattle.atn_graph.specs.Net.{net, size, Of, rule_at, state_at, edge_at};
 ghost use Rattle.atn.specs.Marks.{Grown};
 ghost use Rattle.atn.specs.Found.{found};
-ghost use Rattle.atn.specs.Reach.{StepOver, Listed, Leads, KnowsReached};
+ghost use Rattle.atn.specs.Reach.{StepOver, Listed, LeadsOver, KnowsReachedOver};
 
 use crate::visits::Visits;
 use atn_graph::atn_state::AtnState;
@@ -36,7 +36,7 @@ pub(crate) fn edge(g: &Graph, j: usize) -> Transition
 fn follow(g: &Graph, nulls: &Visits, visits: &mut Visits, s: usize, j: usize)
     requires inside { s < size (net g.now.lists) }
     requires of { Of (net g.now.lists) s j }
-    ensures { Grown (Leads (Listed (found nulls.now)) (edge_at (net g.now.lists) j)) (found visits.old) (found visits.new) }
+    ensures { Grown (LeadsOver (Listed (found nulls.now)) (edge_at (net g.now.lists) j)) (found visits.old) (found visits.new) }
 {
     let e = edge(g, j);
     match e.kind.moves() {
@@ -65,7 +65,7 @@ fn visit(g: &Graph, nulls: &Visits, visits: &mut Visits, s: usize)
 // The states that s reaches over the states in nulls, none of a state outside the net. Each state
 // found is visited once, in the order of finding.
 pub fn reach(g: &Graph, nulls: &Visits, s: usize) -> Visits
-    ensures inside { s < size (net g.now.lists) → KnowsReached (Listed (found nulls.now)) (net g.now.lists) s (found result) }
+    ensures inside { s < size (net g.now.lists) → KnowsReachedOver (Listed (found nulls.now)) (net g.now.lists) s (found result) }
     ensures outside { size (net g.now.lists) ≤ s → found result ≡ [] }
 {
     let mut visits = Visits::new();

@@ -94,3 +94,9 @@ told_no s t never = not_told _ (λ h. never ((pointwise_decides decides (interva
     not_told : (b : Bool) → (b ≡ true → ⊥) → false ≡ b
     not_told true n = absurd (n refl)
     not_told false n = refl
+
+-- and one of the numbers
+pub equal_told : (s t : IntervalSet) → Equal s t (pointwise same_ends (intervals s) (intervals t))
+equal_told s t =
+    let told = pointwise_decides decides (intervals s) (intervals t) in
+    record { members = (λ h x. ap (λ is. has is x) (told.0 h), λ same. told.1 (canonical s t same)); lists = told }

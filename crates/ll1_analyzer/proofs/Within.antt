@@ -8,7 +8,7 @@ use Rattle.interval_set.specs.Members.{intervals}
 use Rattle.interval_set.specs.declared.set.IntervalSet.{IntervalSet}
 use Rattle.interval_set.proofs.Rising.{between, inside_from}
 use Rattle.atn_graph.specs.Net.{Net, size}
-use Rattle.atn.specs.Reach.{Null, KnowsReached}
+use Rattle.atn.specs.Reach.{Null, KnowsReachedOver}
 use Rattle.atn.proofs.Growth.{elem_at, place_of}
 use Rattle.ll1_analyzer.specs.Sets.{epsilon, TakesAt, EndsWith, Within}
 use Rattle.ll1_analyzer.specs.Answers.{HoldsExactly}
@@ -41,7 +41,7 @@ module _ (n : Net) (xs : List ℕ) (x : ℤ) where
       from t = at t (cases_eq t.place i)
 
   -- past the last state, that is how a walk ends
-  pub all_taken : (s : ℕ) (b : Bool) → KnowsReached (Null n) n s xs → Decides b (TakenBefore n xs (length xs) x) → Decides b (EndsWith n s [] x)
+  pub all_taken : (s : ℕ) (b : Bool) → KnowsReachedOver (Null n) n s xs → Decides b (TakenBefore n xs (length xs) x) → Decides b (EndsWith n s [] x)
   all_taken s b known d = decides_like b to from d
     where
       to : TakenBefore n xs (length xs) x → EndsWith n s [] x

@@ -1,5 +1,5 @@
 -- What a script says, as plain lists, and what a directive does to it.
-use Rattle.std.specs.Prelude.{◌≡◌, ℕ, Bool, true, false, ◌⊎◌, List, [], ◌∷◌, ◌++◌, length, ℤ, pos, Some, None, Ok, Err, vec_items, Option, Result, ◌==◌}
+use Rattle.std.specs.Prelude.{◌≡◌, ℕ, Bool, true, false, ◌⊎◌, List, [], ◌∷◌, ◌++◌, length, ℤ, pos, Some, None, Ok, Err, vec_items, Option, Result}
 use Rattle.std.specs.Option.{unwrap_or}
 use Rattle.interval_set.specs.declared.interval.Interval.{Interval}
 use Rattle.atn_graph.specs.declared.tables.Tables.{Tables}
@@ -9,12 +9,9 @@ use Rattle.atn_graph.specs.declared.tables.StateRow.{StateRow}
 use Rattle.atn_graph.specs.declared.tables.EdgeRow.{EdgeRow}
 use Rattle.script.specs.declared.script.Script.{Script}
 use Rattle.script.specs.declared.directive.Directive.{Directive}
-use Rattle.script.specs.declared.directive.Directive.TheVariants.{Net, Counts as GivenCounts, Rule, State, Edge, Interval as GivenInterval, Summary, Lookahead, Asked}
-use Rattle.script.specs.declared.directive.LookaheadKind.{LookaheadKind}
-use Rattle.script.specs.declared.directive.LookaheadKind.TheVariants.{Walker}
-use Rattle.script.specs.declared.question.Question.{Question}
+use Rattle.script.specs.declared.directive.Directive.TheVariants.{Net, Counts as GivenCounts, Rule, State, Edge, Interval as GivenInterval, Summary}
 use Rattle.script.specs.declared.error.Fault.{Fault}
-use Rattle.script.specs.declared.error.Fault.TheVariants.{FullTable, TooLate, Memory}
+use Rattle.script.specs.declared.error.Fault.TheVariants.{FullTable, Memory}
 
 -- What the lines say: an option is None until its line stands.
 pub record Content : Type 0 where
@@ -25,11 +22,9 @@ pub record Content : Type 0 where
   pub edges : List EdgeRow
   pub intervals : List Interval
   pub summary : Bool
-  pub lookahead : LookaheadKind
-  pub questions : List Question
 
 abbrev pub content : Script → Content
-content s = record { max = s.max; counts = s.counts; rules = vec_items s.rules; states = vec_items s.states; edges = vec_items s.edges; intervals = vec_items s.intervals; summary = s.summary; lookahead = s.lookahead; questions = vec_items s.questions }
+content s = record { max = s.max; counts = s.counts; rules = vec_items s.rules; states = vec_items s.states; edges = vec_items s.edges; intervals = vec_items s.intervals; summary = s.summary }
 
 -- one more at the end
 abbrev pub pushed : {X : Type 0} → List X → X → List X
@@ -37,20 +32,13 @@ pushed xs x = xs ++ x ∷ []
 
 -- what the script says once the directive is taken in: a row goes to its own table, an option replaces an earlier one
 abbrev pub taken_in : Directive → Content → Content
-taken_in (Net n) k = record k { max = Some n }
-taken_in (GivenCounts n) k = record k { counts = Some n }
-taken_in (Rule r) k = record k { rules = pushed k.rules r }
-taken_in (State r) k = record k { states = pushed k.states r }
-taken_in (Edge r) k = record k { edges = pushed k.edges r }
-taken_in (GivenInterval i) k = record k { intervals = pushed k.intervals i }
-taken_in Summary k = record k { summary = true }
-taken_in (Lookahead l) k = record k { lookahead = l }
-taken_in (Asked q) k = record k { questions = pushed k.questions q }
-
--- Rows and options come before the first question.
-abbrev pub in_time : Directive → Content → Bool
-in_time (Asked q) k = true
-in_time _ k = length k.questions == 0
+taken_in (Net n) k = record { max = Some n; counts = k.counts; rules = k.rules; states = k.states; edges = k.edges; intervals = k.intervals; summary = k.summary }
+taken_in (GivenCounts n) k = record { max = k.max; counts = Some n; rules = k.rules; states = k.states; edges = k.edges; intervals = k.intervals; summary = k.summary }
+taken_in (Rule r) k = record { max = k.max; counts = k.counts; rules = pushed k.rules r; states = k.states; edges = k.edges; intervals = k.intervals; summary = k.summary }
+taken_in (State r) k = record { max = k.max; counts = k.counts; rules = k.rules; states = pushed k.states r; edges = k.edges; intervals = k.intervals; summary = k.summary }
+taken_in (Edge r) k = record { max = k.max; counts = k.counts; rules = k.rules; states = k.states; edges = pushed k.edges r; intervals = k.intervals; summary = k.summary }
+taken_in (GivenInterval i) k = record { max = k.max; counts = k.counts; rules = k.rules; states = k.states; edges = k.edges; intervals = pushed k.intervals i; summary = k.summary }
+taken_in Summary k = record { max = k.max; counts = k.counts; rules = k.rules; states = k.states; edges = k.edges; intervals = k.intervals; summary = true }
 
 -- how many rows the table has that the directive is for; an option is for none
 abbrev pub rows_for : Directive → Content → Option ℕ
@@ -61,8 +49,6 @@ rows_for (State r) k = Some (length k.states)
 rows_for (Edge r) k = Some (length k.edges)
 rows_for (GivenInterval i) k = Some (length k.intervals)
 rows_for Summary k = None
-rows_for (Lookahead l) k = None
-rows_for (Asked q) k = Some (length k.questions)
 
 -- A table takes a million rows.
 abbrev pub full : ℕ
@@ -78,14 +64,14 @@ abbrev pub RowAdded : {X : Type 0} → List X → X → Result (Unit {0}) Fault 
 RowAdded before x (Ok u) after = after ≡ pushed before x
 RowAdded before x (Err f) after = (after ≡ before) × RefusedAt (Some (length before)) f
 
--- The directive comes in time and is taken in; or it comes too late or is refused by its table, and then nothing changes.
+-- The directive is taken in; or it is refused by its table, and then nothing changes.
 abbrev pub Applied : Directive → Content → Result (Unit {0}) Fault → Content → Type 0
-Applied d before (Ok u) after = (in_time d before ≡ true) × (after ≡ taken_in d before)
-Applied d before (Err f) after = (after ≡ before) × (((in_time d before ≡ false) × (f ≡ TooLate)) ⊎ ((in_time d before ≡ true) × RefusedAt (rows_for d before) f))
+Applied d before (Ok u) after = after ≡ taken_in d before
+Applied d before (Err f) after = (after ≡ before) × RefusedAt (rows_for d before) f
 
 -- What an empty script says.
 abbrev pub nothing_said : Content
-nothing_said = record { max = None; counts = None; rules = []; states = []; edges = []; intervals = []; summary = false; lookahead = Walker; questions = [] }
+nothing_said = record { max = None; counts = None; rules = []; states = []; edges = []; intervals = []; summary = false }
 
 -- the numbers of rows given
 abbrev pub row_counts : Content → Counts

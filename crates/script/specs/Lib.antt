@@ -1,4 +1,5 @@
 pub mod Answers
+pub mod Asking
 pub mod Contents
 pub mod Lines
 pub mod Numbers

@@ -1,12 +1,11 @@
 -- What a line says: the directive that its first word and its numbers give.
 use Rattle.std.specs.Prelude.{◌≡◌, ℕ, ◌+◌, cond, List, length, ℤ, pos, Some, None, codes, fold, Option, ◌==◌, ◌≢◌, slice_index_or}
 use Rattle.script.specs.declared.directive.Directive.{Directive}
-use Rattle.script.specs.declared.directive.Directive.TheVariants.{Net, Counts, Rule, State, Edge, Interval, Summary, Lookahead, Asked}
+use Rattle.script.specs.declared.directive.Directive.TheVariants.{Net, Counts, Rule, State, Edge, Interval, Summary}
 use Rattle.script.specs.declared.error.Fault.{Fault}
-use Rattle.script.specs.declared.error.Fault.TheVariants.{UnknownWord, WrongForm, FullTable, NoNet, TooLate, Memory}
+use Rattle.script.specs.declared.error.Fault.TheVariants.{UnknownWord, WrongForm, FullTable, NoNet, Memory, WrongQuestion, TooLate}
 use Rattle.script.specs.declared.keyword.Keyword.{Keyword}
 use Rattle.script.specs.declared.keyword.Keyword.TheVariants as keyword
-use Rattle.script.specs.Questions.{ask_word}
 
 -- the word as it is written
 abbrev pub spelling : Keyword → List ℕ
@@ -17,22 +16,16 @@ spelling keyword.State = codes "state"
 spelling keyword.Edge = codes "edge"
 spelling keyword.Interval = codes "interval"
 spelling keyword.Summary = codes "summary"
-spelling keyword.Lookahead = codes "lookahead"
-spelling keyword.Within = codes "within"
-spelling keyword.InContext = codes "in-context"
-spelling keyword.Expected = codes "expected"
-spelling keyword.Recovery = codes "recovery"
 
--- how many numbers follow the word of a row or an option
-abbrev pub numbers_after : Keyword → Option ℕ
-numbers_after keyword.Net = Some 1
-numbers_after keyword.Counts = Some 4
-numbers_after keyword.Rule = Some 2
-numbers_after keyword.State = Some 3
-numbers_after keyword.Edge = Some 4
-numbers_after keyword.Interval = Some 2
-numbers_after keyword.Summary = Some 0
-numbers_after _ = None
+-- how many numbers follow the word
+abbrev pub numbers_after : Keyword → ℕ
+numbers_after keyword.Net = 1
+numbers_after keyword.Counts = 4
+numbers_after keyword.Rule = 2
+numbers_after keyword.State = 3
+numbers_after keyword.Edge = 4
+numbers_after keyword.Interval = 2
+numbers_after keyword.Summary = 0
 
 -- the word is the keyword's, or no keyword's
 abbrev pub Spelt : List ℕ → Option Keyword → Type 0
@@ -48,8 +41,6 @@ keyword_of (State s) = keyword.State
 keyword_of (Edge e) = keyword.Edge
 keyword_of (Interval i) = keyword.Interval
 keyword_of Summary = keyword.Summary
-keyword_of (Lookahead l) = keyword.Lookahead
-keyword_of (Asked q) = ask_word q.ask
 
 -- number i of the line, from 0
 abbrev pub number : List ℤ → ℕ → ℤ
@@ -63,12 +54,12 @@ Holds ns (Rule r) = (r.start ≡ number ns 0) × (r.stop ≡ number ns 1)
 Holds ns (State s) = (s.rule ≡ number ns 0) × (s.kind ≡ number ns 1) × (s.edges ≡ number ns 2)
 Holds ns (Edge e) = (e.kind ≡ number ns 0) × (e.target ≡ number ns 1) × (e.a ≡ number ns 2) × (e.b ≡ number ns 3)
 Holds ns (Interval i) = (i.a ≡ number ns 0) × (i.b ≡ number ns 1)
-Holds ns _ = Unit {0}
+Holds ns Summary = Unit {0}
 
--- The keyword's row or option with these numbers; none where their number is wrong.
+-- The keyword's directive with these numbers; none where their number is wrong.
 abbrev pub Formed : Keyword → List ℤ → Option Directive → Type 0
-Formed k ns (Some d) = (keyword_of d ≡ k) × (Some (length ns) ≡ numbers_after k) × Holds ns d
-Formed k ns None = Some (length ns) ≢ numbers_after k
+Formed k ns (Some d) = (keyword_of d ≡ k) × (length ns ≡ numbers_after k) × Holds ns d
+Formed k ns None = length ns ≡ numbers_after k → ⊥
 
 -- what can be wrong with a line by itself
 abbrev pub LineFault : Fault → Type 0
@@ -76,8 +67,9 @@ LineFault UnknownWord = Unit {0}
 LineFault (WrongForm k) = Unit {0}
 LineFault FullTable = ⊥
 LineFault NoNet = ⊥
-LineFault TooLate = ⊥
 LineFault Memory = Unit {0}
+LineFault (WrongQuestion w) = ⊥
+LineFault TooLate = ⊥
 
 -- how many newlines the text has
 abbrev pub newlines : List ℕ → ℕ

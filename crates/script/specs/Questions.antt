@@ -1,9 +1,22 @@
 -- What a question asks, by its first word and its numbers.
-use Rattle.std.specs.Prelude.{◌≡◌, ◌≢◌, ℕ, ◌-◌, ◌^◌, ◌<◌, List, length, [], ◌∷◌, map, ℤ, pos, negsuc, Option, Some, None}
-use Rattle.script.specs.declared.keyword.Keyword.{Keyword}
-use Rattle.script.specs.declared.keyword.Keyword.TheVariants as keyword
+use Rattle.std.specs.Prelude.{◌≡◌, ◌≢◌, ℕ, ◌-◌, ◌^◌, ◌<◌, List, length, [], ◌∷◌, map, ℤ, pos, negsuc, Option, Some, None, codes}
+use Rattle.script.specs.declared.question.AskWord.{AskWord}
+use Rattle.script.specs.declared.question.AskWord.TheVariants as word
 use Rattle.script.specs.declared.question.Ask.{Ask}
 use Rattle.script.specs.declared.question.Ask.TheVariants.{Within, InContext, Expected, Recovery}
+
+-- the word as it is written
+abbrev pub ask_spelling : AskWord → List ℕ
+ask_spelling word.Lookahead = codes "lookahead"
+ask_spelling word.Within = codes "within"
+ask_spelling word.InContext = codes "in-context"
+ask_spelling word.Expected = codes "expected"
+ask_spelling word.Recovery = codes "recovery"
+
+-- the word is the one so spelt, or none of them
+abbrev pub AskSpelt : List ℕ → Option AskWord → Type 0
+AskSpelt w (Some k) = w ≡ ask_spelling k
+AskSpelt w None = (k : AskWord) → w ≢ ask_spelling k
 
 -- the state that a number names; one below 0 names none
 abbrev pub state_number : ℤ → ℕ
@@ -14,11 +27,11 @@ abbrev pub state_numbers : List ℤ → List ℕ
 state_numbers ns = map state_number ns
 
 -- the word that a question begins with, and the states that it names, in their order
-abbrev pub ask_word : Ask → Keyword
-ask_word (Within s) = keyword.Within
-ask_word (InContext s chain) = keyword.InContext
-ask_word (Expected s chain) = keyword.Expected
-ask_word (Recovery chain) = keyword.Recovery
+abbrev pub ask_word : Ask → AskWord
+ask_word (Within s) = word.Within
+ask_word (InContext s chain) = word.InContext
+ask_word (Expected s chain) = word.Expected
+ask_word (Recovery chain) = word.Recovery
 
 abbrev pub ask_states : Ask → List ℕ
 ask_states (Within s) = s ∷ []
@@ -26,7 +39,7 @@ ask_states (InContext s chain) = s ∷ chain.items
 ask_states (Expected s chain) = s ∷ chain.items
 ask_states (Recovery chain) = chain.items
 
--- The keyword's question with these numbers, one or more; none where no question is so written.
-abbrev pub Forms : Keyword → List ℤ → Option Ask → Type 0
+-- The word's question with these numbers, one or more; none where no question is so written.
+abbrev pub Forms : AskWord → List ℤ → Option Ask → Type 0
 Forms k ns (Some a) = (0 < length ns) × (ask_word a ≡ k) × (ask_states a ≡ state_numbers ns)
 Forms k ns None = 0 < length ns → (a : Ask) → ask_word a ≡ k → ask_states a ≢ state_numbers ns

@@ -1,9 +1,8 @@
-use crate::question::Question;
 use atn_graph::tables::{Counts, EdgeRow, RuleRow, StateRow};
 use interval_set::interval::Interval;
 
 // What one line of a script says.
-#[derive(Drop)]
+#[derive(Clone, Copy)]
 pub enum Directive {
     // the net's largest token type
     Net { max: i32 },
@@ -15,15 +14,4 @@ pub enum Directive {
     Interval(Interval),
     // a summary of an accepted net is wanted
     Summary,
-    // the lookahead that answers the questions
-    Lookahead(LookaheadKind),
-    Asked(Question),
-}
-
-// Ways to work out what may come next. All answer alike.
-#[derive(Clone, Copy, PartialEq, Eq, Debug)]
-pub enum LookaheadKind {
-    Walker,
-    Table,
-    Cache,
 }

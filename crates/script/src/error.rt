@@ -2,6 +2,7 @@ ghost use Rattle.std.specs.Prelude.{◌≡◌};
 ghost use Rattle.script.specs.declared.error.Fault.TheVariants.{Memory};
 
 use crate::keyword::Keyword;
+use crate::question::AskWord;
 use std::alloc::{AllocError, AllocFailed};
 use std::error::Error;
 use std::fmt;
@@ -15,12 +16,14 @@ pub enum Fault {
     WrongForm(Keyword),
     // the row's table is full
     FullTable,
-    // no question, after the first question
-    TooLate,
     // the script ends without a net line
     NoNet,
     // the line is fine, and memory ran out
     Memory,
+    // what follows the word is not what a question takes, or no lookahead's name
+    WrongQuestion(AskWord),
+    // no question, after the first question
+    TooLate,
 }
 
 impl<T: Drop> From<AllocFailed<T>> for Fault {
@@ -57,12 +60,13 @@ impl fmt::Display for Fault {
             }
             Fault::WrongForm(keyword) => write!(f, "expected {keyword}"),
             Fault::FullTable => write!(f, "expected at most 1000000 rows in a table"),
+            Fault::NoNet => write!(f, "expected a line net MAX, and the script has none"),
+            Fault::Memory => write!(f, "out of memory"),
+            Fault::WrongQuestion(word) => write!(f, "expected {word}"),
             Fault::TooLate => write!(
                 f,
                 "expected a question: rows and options come before the first one"
             ),
-            Fault::NoNet => write!(f, "expected a line net MAX, and the script has none"),
-            Fault::Memory => write!(f, "out of memory"),
         }
     }
 }

@@ -12,11 +12,6 @@ pub enum Keyword {
     Edge,
     Interval,
     Summary,
-    Lookahead,
-    Within,
-    InContext,
-    Expected,
-    Recovery,
 }
 
 impl Keyword {
@@ -32,11 +27,6 @@ impl Keyword {
             "edge" => Some(Keyword::Edge),
             "interval" => Some(Keyword::Interval),
             "summary" => Some(Keyword::Summary),
-            "lookahead" => Some(Keyword::Lookahead),
-            "within" => Some(Keyword::Within),
-            "in-context" => Some(Keyword::InContext),
-            "expected" => Some(Keyword::Expected),
-            "recovery" => Some(Keyword::Recovery),
             _ => None,
         }
     }
@@ -53,11 +43,6 @@ impl fmt::Display for Keyword {
             Keyword::Edge => "edge KIND TARGET A B, four numbers",
             Keyword::Interval => "interval LOW HIGH, two numbers",
             Keyword::Summary => "summary, no number",
-            Keyword::Lookahead => "lookahead walker, table or cache",
-            Keyword::Within => "within S, one number",
-            Keyword::InContext => "in-context S C.., one number or more",
-            Keyword::Expected => "expected S C.., one number or more",
-            Keyword::Recovery => "recovery C.., one number or more",
         };
         write!(f, "{form}")
     }

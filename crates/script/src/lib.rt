@@ -12,4 +12,5 @@ pub mod number;
 pub mod parse;
 pub mod question;
 pub mod script;
+pub mod script_line;
 pub mod tables;

@@ -1,20 +1,18 @@
 ghost use Rattle.std.specs.Prelude.{◌≡◌, ◌⊎◌, IfErr};
 ghost use Rattle.script.specs.Lines.{Formed, LineFault};
-ghost use Rattle.script.specs.declared.error.Fault.TheVariants.{WrongForm, Memory};
-ghost use Rattle.script.specs.declared.keyword.Keyword.TheVariants.{Lookahead};
+ghost use Rattle.script.specs.declared.error.Fault.TheVariants.{Memory};
 
-use crate::directive::{Directive, LookaheadKind};
+use crate::directive::Directive;
 use crate::error::Fault;
 use crate::keyword::Keyword;
 use crate::number::read_number;
-use crate::question::{Ask, Question};
 use atn_graph::tables::{Counts, EdgeRow, RuleRow, StateRow};
 use interval_set::interval::Interval;
-use std::alloc::{AllocError, Global};
+use std::alloc::Global;
 use std::str::SplitAsciiWhitespace;
 
 impl Directive {
-    // The keyword's row or option with these numbers.
+    // The keyword's directive with these numbers.
     pub fn form(keyword: Keyword, numbers: &[i32]) -> Option<Directive>
         ensures { Formed keyword numbers.now result }
     {
@@ -55,60 +53,26 @@ impl Directive {
         let Some(keyword) = Keyword::of(first) else {
             return Err(Fault::UnknownWord);
         };
-        if keyword == Keyword::Lookahead {
-            return read_lookahead(words);
-        }
-        let numbers = read_numbers(heap, keyword, words)?;
-        if let Some(directive) = Directive::form(keyword, numbers.as_slice()) {
-            return Ok(Some(directive));
-        }
-        match Ask::form(heap, keyword, numbers.as_slice())? {
-            Some(ask) => Ok(Some(Directive::Asked(Question {
-                words: single_blanks(heap, line)?,
-                ask,
-            }))),
+        let numbers = read_numbers(heap, Fault::WrongForm(keyword), words)?;
+        match Directive::form(keyword, numbers.as_slice()) {
+            Some(directive) => Ok(Some(directive)),
             None => Err(Fault::WrongForm(keyword)),
         }
     }
 }
 
-// The lookahead that the one word after the keyword names.
-fn read_lookahead(words: SplitAsciiWhitespace<'_>) -> Result<Option<Directive>, Fault>
-    ensures { IfErr result (λ f. f ≡ WrongForm Lookahead) }
-{
-    let mut words = words;
-    match (words.next(), words.next()) {
-        (Some("walker"), None) => Ok(Some(Directive::Lookahead(LookaheadKind::Walker))),
-        (Some("table"), None) => Ok(Some(Directive::Lookahead(LookaheadKind::Table))),
-        (Some("cache"), None) => Ok(Some(Directive::Lookahead(LookaheadKind::Cache))),
-        _ => Err(Fault::WrongForm(Keyword::Lookahead)),
-    }
-}
-
-// The words of the line with one blank between two.
-fn single_blanks(heap: Global, line: &str) -> Result<String, AllocError> {
-    let mut text = String::new(heap);
-    for word in line.split_ascii_whitespace() {
-        if !text.is_empty() {
-            text.push_str(" ")?;
-        }
-        text.push_str(word)?;
-    }
-    Ok(text)
-}
-
-// The numbers that the words after a keyword stand for.
-fn read_numbers(
+// The numbers that the words after a line's first stand for; or what is wrong, where a word is none.
+pub(crate) fn read_numbers(
     heap: Global,
-    keyword: Keyword,
+    wrong: Fault,
     words: SplitAsciiWhitespace<'_>,
 ) -> Result<Vec<i32>, Fault>
-    ensures { IfErr result (λ f. (f ≡ WrongForm keyword) ⊎ (f ≡ Memory)) }
+    ensures { IfErr result (λ f. (f ≡ wrong) ⊎ (f ≡ Memory)) }
 {
     let mut numbers = Vec::new(heap);
     for word in words {
         let Some(number) = read_number(word) else {
-            return Err(Fault::WrongForm(keyword));
+            return Err(wrong);
         };
         numbers.push(number)?;
     }

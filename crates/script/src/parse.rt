@@ -3,17 +3,17 @@ ghost use Rattle.script.specs.Contents.{content};
 ghost use Rattle.script.specs.Lines.{newlines};
 ghost use Rattle.script.specs.declared.error.Fault.TheVariants.{NoNet};
 
-use crate::directive::Directive;
 use crate::error::{Fault, ScriptError};
 use crate::script::Script;
+use crate::script_line::ScriptLine;
 use std::alloc::Global;
 
 // Takes one more line into the script.
 fn take_line(heap: Global, script: &mut Script, line: &str) -> Result<(), Fault>
     ensures { IfErr result (λ f. f ≢ NoNet) }
 {
-    match Directive::read(heap, line) {
-        Ok(Some(directive)) => script.apply(directive),
+    match ScriptLine::read(heap, line) {
+        Ok(Some(said)) => script.take(said),
         Ok(None) => Ok(()),
         Err(Fault::UnknownWord) if !script.questions().is_empty() => Err(Fault::TooLate),
         Err(fault) => Err(fault),

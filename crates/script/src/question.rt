@@ -1,8 +1,48 @@
 ghost use Rattle.std.specs.Prelude.{◌≡◌, IfOk};
-ghost use Rattle.script.specs.Questions.{state_number, state_numbers, Forms};
+ghost use Rattle.script.specs.Questions.{state_number, state_numbers, AskSpelt, Forms};
 
-use crate::keyword::Keyword;
 use std::alloc::{AllocError, Global};
+use std::fmt;
+
+// The words that a question's line may begin with, and the one that says how questions are worked out.
+#[derive(Clone, Copy, PartialEq, Eq, Debug)]
+pub enum AskWord {
+    Lookahead,
+    Within,
+    InContext,
+    Expected,
+    Recovery,
+}
+
+impl AskWord {
+    // The word so spelt.
+    pub fn of(word: &str) -> Option<AskWord>
+        ensures { AskSpelt word.now result }
+    {
+        match word {
+            "lookahead" => Some(AskWord::Lookahead),
+            "within" => Some(AskWord::Within),
+            "in-context" => Some(AskWord::InContext),
+            "expected" => Some(AskWord::Expected),
+            "recovery" => Some(AskWord::Recovery),
+            _ => None,
+        }
+    }
+}
+
+// The form of the word's line.
+impl fmt::Display for AskWord {
+    fn fmt<W: fmt::Write>(&self, f: &mut fmt::Formatter<W>) -> fmt::Result {
+        let form = match *self {
+            AskWord::Lookahead => "lookahead walker, table or cache",
+            AskWord::Within => "within S, one number",
+            AskWord::InContext => "in-context S C.., one number or more",
+            AskWord::Expected => "expected S C.., one number or more",
+            AskWord::Recovery => "recovery C.., one number or more",
+        };
+        write!(f, "{form}")
+    }
+}
 
 // What is asked of a net: the state that a set is of, and the invoking states of the open rules,
 // innermost first.
@@ -35,28 +75,28 @@ fn state_numbers(heap: Global, numbers: &[i32]) -> Result<Vec<usize>, AllocError
 }
 
 impl Ask {
-    // What the keyword asks with these numbers. A chain may be empty, but a question for the recovery
-    // set has one.
-    pub fn form(heap: Global, keyword: Keyword, numbers: &[i32]) -> Result<Option<Ask>, AllocError>
-        ensures { IfOk result (Forms keyword numbers.now) }
+    // What the word asks with these numbers. A chain may be empty, but a question for the recovery set
+    // has one.
+    pub fn form(heap: Global, word: AskWord, numbers: &[i32]) -> Result<Option<Ask>, AllocError>
+        ensures { IfOk result (Forms word numbers.now) }
     {
         let states = state_numbers(heap, numbers)?;
         let Some((first, rest)) = states.as_slice().split_first() else {
             return Ok(None);
         };
         let state = *first;
-        let ask = match keyword {
-            Keyword::Within if rest.is_empty() => Some(Ask::Within { state }),
-            Keyword::InContext => Some(Ask::InContext {
+        let ask = match word {
+            AskWord::Within if rest.is_empty() => Some(Ask::Within { state }),
+            AskWord::InContext => Some(Ask::InContext {
                 state,
                 chain: rest.to_vec(heap)?,
             }),
-            Keyword::Expected => Some(Ask::Expected {
+            AskWord::Expected => Some(Ask::Expected {
                 state,
                 chain: rest.to_vec(heap)?,
             }),
-            Keyword::Recovery => Some(Ask::Recovery { chain: states }),
-            _ => None,
+            AskWord::Recovery => Some(Ask::Recovery { chain: states }),
+            AskWord::Within | AskWord::Lookahead => None,
         };
         Ok(ask)
     }

@@ -1,7 +1,7 @@
 ghost use Rattle.std.specs.Prelude.{◌≤◌, vec_len};
 
-use crate::directive::LookaheadKind;
 use crate::question::Question;
+use crate::script_line::LookaheadKind;
 use atn_graph::tables::{Counts, EdgeRow, RuleRow, StateRow};
 use interval_set::interval::Interval;
 

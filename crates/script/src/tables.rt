@@ -1,16 +1,18 @@
 ghost use Rattle.std.specs.Prelude.{◌≡◌, None, MatchOption};
+ghost use Rattle.script.specs.Asking.{asking, nothing_asked};
 ghost use Rattle.script.specs.Contents.{content, nothing_said, row_counts, ItsTables};
 
-use crate::directive::LookaheadKind;
 use crate::question::Question;
 use crate::script::Script;
+use crate::script_line::LookaheadKind;
 use atn_graph::tables::{Counts, Tables};
 use std::alloc::Global;
 
 impl Script {
     // A script that says nothing yet.
     pub fn new(heap: Global) -> Script
-        ensures { content result ≡ nothing_said }
+        ensures said { content result ≡ nothing_said }
+        ensures asked { asking result ≡ nothing_asked }
     {
         Script {
             max: None,
@@ -33,13 +35,13 @@ impl Script {
     }
 
     pub fn lookahead(&self) -> LookaheadKind
-        ensures { result ≡ (content self.now).lookahead }
+        ensures { result ≡ (asking self.now).lookahead }
     {
         self.lookahead
     }
 
     pub fn questions(&self) -> &[Question]
-        ensures { result.now ≡ (content self.now).questions }
+        ensures { result.now ≡ (asking self.now).questions }
     {
         self.questions.as_slice()
     }

@@ -4,7 +4,7 @@ use Rattle.interval_set.specs.Intervals.{from_to, inside, has}
 use Rattle.atn_graph.specs.Net.{Net, size}
 use Rattle.atn.specs.Checked.{net_of}
 use Rattle.atn.specs.Found.{found}
-use Rattle.atn.specs.Reach.{Listed, KnowsNull, KnowsReached}
+use Rattle.atn.specs.Reach.{Listed, KnowsNull, KnowsReachedOver}
 use Rattle.atn.proofs.Over.{knows_over}
 use Rattle.atn.proofs.Labelling.{added}
 use Rattle.ll1_analyzer.specs.Sets.{epsilon, EndsWith, Within}
@@ -20,12 +20,12 @@ loop-k-preserved c x =
 
 -- the states found are all that s reaches, so their types are those that walks end with
 taken : (n : Net) (s : ℕ) (x : ℤ) (b : Bool) (nulls xs found : List ℕ) (i : ℕ) → xs ≡ found → KnowsNull n nulls
-    → (s < size n → KnowsReached (Listed nulls) n s found) → (size n ≤ s → found ≡ []) → length xs ≡ i
+    → (s < size n → KnowsReachedOver (Listed nulls) n s found) → (size n ≤ s → found ≡ []) → length xs ≡ i
     → Decides b (TakenBefore n xs i x) → Decides b (EndsWith n s [] x)
 taken n s x b nulls xs found i is known inside outside all d = at (cases_lt s (size n))
   where
     at : (s < size n) ⊎ (size n ≤ s) → Decides b (EndsWith n s [] x)
-    at (inl l) = all_taken n xs x s b (knows_over n s xs nulls known (subst (KnowsReached (Listed nulls) n s) (sym is) (inside l))) (subst (λ k. Decides b (TakenBefore n xs k x)) (sym all) d)
+    at (inl l) = all_taken n xs x s b (knows_over n s xs nulls known (subst (KnowsReachedOver (Listed nulls) n s) (sym is) (inside l))) (subst (λ k. Decides b (TakenBefore n xs k x)) (sym all) d)
     at (inr l) = none_outside n xs x s i b l (is ∙ outside l) d
 
 pub returns-then-has : goal.returns-then-has

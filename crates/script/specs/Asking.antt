@@ -1,0 +1,40 @@
+-- What a script asks beside its net, and what a line does to both.
+use Rattle.std.specs.Prelude.{◌≡◌, ◌<◌, List, [], length, Err, vec_items, Result, is_ok, true}
+use Rattle.script.specs.declared.script.Script.{Script}
+use Rattle.script.specs.declared.script_line.LookaheadKind.{LookaheadKind}
+use Rattle.script.specs.declared.script_line.LookaheadKind.TheVariants.{Walker}
+use Rattle.script.specs.declared.script_line.ScriptLine.{ScriptLine}
+use Rattle.script.specs.declared.script_line.ScriptLine.TheVariants.{Row, Lookahead, Asked}
+use Rattle.script.specs.declared.question.Question.{Question}
+use Rattle.script.specs.declared.error.Fault.{Fault}
+use Rattle.script.specs.declared.error.Fault.TheVariants.{WrongQuestion, TooLate}
+use Rattle.script.specs.Contents.{Content, Applied, RowAdded}
+use Rattle.script.specs.Lines.{LineFault}
+
+-- how the questions are worked out, and the questions in their order
+pub record Asking : Type 0 where
+  pub lookahead : LookaheadKind
+  pub questions : List Question
+
+abbrev pub asking : Script → Asking
+asking s = record { lookahead = s.lookahead; questions = vec_items s.questions }
+
+-- What an empty script asks: nothing, of the walker.
+abbrev pub nothing_asked : Asking
+nothing_asked = record { lookahead = Walker; questions = [] }
+
+-- what can be wrong with a line by itself, also one that asks
+abbrev pub ScriptLineFault : Fault → Type 0
+ScriptLineFault (WrongQuestion w) = Unit {0}
+ScriptLineFault f = LineFault f
+
+-- Before the first question the line does what it does; after it, it is refused and nothing changes.
+pub record Early (a : Asking) (r : Result (Unit {0}) Fault) (Does Nothing : Type 0) : Type 0 where
+  pub before : length a.questions ≡ 0 → Does
+  pub late : 0 < length a.questions → (r ≡ Err TooLate) × Nothing
+
+-- A line, taken into a script that says k of its net and asks a. Rows and options come before the first question.
+abbrev pub Taken : ScriptLine → Content → Asking → Result (Unit {0}) Fault → Content → Asking → Type 0
+Taken (Row d) k a r k' a' = (a' ≡ a) × Early a r (Applied d k r k') (k' ≡ k)
+Taken (Lookahead l) k a r k' a' = (k' ≡ k) × Early a r ((is_ok r ≡ true) × (a' ≡ record a { lookahead = l })) (a' ≡ a)
+Taken (Asked q) k a r k' a' = (k' ≡ k) × (a'.lookahead ≡ a.lookahead) × RowAdded a.questions q r a'.questions
