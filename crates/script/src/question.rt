@@ -96,7 +96,7 @@ impl Ask {
                 chain: rest.to_vec(heap)?,
             }),
             AskWord::Recovery => Some(Ask::Recovery { chain: states }),
-            AskWord::Within | AskWord::Lookahead => None,
+            _ => None,
         };
         Ok(ask)
     }
