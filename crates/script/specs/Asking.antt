@@ -5,11 +5,13 @@ use Rattle.script.specs.declared.script_line.LookaheadKind.{LookaheadKind}
 use Rattle.script.specs.declared.script_line.LookaheadKind.TheVariants.{Walker}
 use Rattle.script.specs.declared.script_line.ScriptLine.{ScriptLine}
 use Rattle.script.specs.declared.script_line.ScriptLine.TheVariants.{Row, Lookahead, Asked}
+use Rattle.script.specs.declared.question.AskWord.{AskWord}
 use Rattle.script.specs.declared.question.Question.{Question}
 use Rattle.script.specs.declared.error.Fault.{Fault}
 use Rattle.script.specs.declared.error.Fault.TheVariants.{WrongQuestion, TooLate}
 use Rattle.script.specs.Contents.{Content, Applied, RowAdded}
 use Rattle.script.specs.Lines.{LineFault}
+use Rattle.script.specs.Questions.{ask_word}
 
 -- how the questions are worked out, and the questions in their order
 pub record Asking : Type 0 where
@@ -27,6 +29,18 @@ nothing_asked = record { lookahead = Walker; questions = [] }
 abbrev pub ScriptLineFault : Fault → Type 0
 ScriptLineFault (WrongQuestion w) = Unit {0}
 ScriptLineFault f = LineFault f
+
+-- the line names a lookahead
+abbrev pub IsLookahead : ScriptLine → Type 0
+IsLookahead (Row d) = ⊥
+IsLookahead (Lookahead l) = Unit {0}
+IsLookahead (Asked q) = ⊥
+
+-- the line asks what the word asks
+abbrev pub Asks : AskWord → ScriptLine → Type 0
+Asks w (Row d) = ⊥
+Asks w (Lookahead l) = ⊥
+Asks w (Asked q) = ask_word q.ask ≡ w
 
 -- Before the first question the line does what it does; after it, it is refused and nothing changes.
 pub record Early (a : Asking) (r : Result (Unit {0}) Fault) (Does Nothing : Type 0) : Type 0 where

@@ -1,5 +1,5 @@
-ghost use Rattle.std.specs.Prelude.{◌≡◌, ◌⊎◌, IfErr};
-ghost use Rattle.script.specs.Asking.{ScriptLineFault};
+ghost use Rattle.std.specs.Prelude.{◌≡◌, ◌⊎◌, true, is_some, IfSome, IfOk, IfErr};
+ghost use Rattle.script.specs.Asking.{ScriptLineFault, IsLookahead, Asks};
 ghost use Rattle.script.specs.declared.error.Fault.TheVariants.{WrongQuestion, Memory};
 ghost use Rattle.script.specs.declared.question.AskWord.TheVariants.{Lookahead};
 
@@ -47,7 +47,8 @@ impl ScriptLine {
 
 // The lookahead that the one word after the first names.
 fn read_lookahead(words: SplitAsciiWhitespace<'_>) -> Result<Option<ScriptLine>, Fault>
-    ensures { IfErr result (λ f. f ≡ WrongQuestion Lookahead) }
+    ensures names { IfOk result (λ line. IfSome line IsLookahead × (is_some line ≡ true)) }
+    ensures wrong { IfErr result (λ f. f ≡ WrongQuestion Lookahead) }
 {
     let mut words = words;
     match (words.next(), words.next()) {
@@ -65,7 +66,8 @@ fn read_question(
     line: &str,
     words: SplitAsciiWhitespace<'_>,
 ) -> Result<Option<ScriptLine>, Fault>
-    ensures { IfErr result (λ f. (f ≡ WrongQuestion word) ⊎ (f ≡ Memory)) }
+    ensures asks { IfOk result (λ line. IfSome line (Asks word) × (is_some line ≡ true)) }
+    ensures wrong { IfErr result (λ f. (f ≡ WrongQuestion word) ⊎ (f ≡ Memory)) }
 {
     let wrong = Fault::WrongQuestion(word);
     let numbers = read_numbers(heap, wrong, words)?;
