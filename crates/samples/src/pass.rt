@@ -14,17 +14,12 @@ use interval_set::set::IntervalSet;
 use ll1_analyzer::analyzer::LL1Analyzer;
 use ll1_analyzer::sets::next_tokens;
 
-// What the within-rule sets of four states of the pass net hold: a theorem about the definitions, not about this body.
-pub fn pass_net_sets() -> u8
-    ensures { PassSets }
-{
-    0
-}
-
-// The pass net, read from its rows and checked. It is never denied.
+// The pass net, read from its rows and checked. It is never denied, and the within-rule sets of four
+// of its states are known.
 pub fn pass_net() -> Result<Atn, Denial>
     ensures accepted { IsOk result }
     ensures net { IfOk result (λ a. net_of a ≡ pass) }
+    ensures sets { PassSets }
 {
     Atn::check(&Tables {
         max_token_type: 3,

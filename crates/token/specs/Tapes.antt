@@ -7,7 +7,7 @@ use Rattle.token.specs.Tokens.{Fields, is_eof}
 
 -- what stands past the end of a list
 abbrev pub no_token : Fields
-no_token = record { typ = Eof; channel = 0; index = None; position = (0, 0) }
+no_token = record { typ = Eof; channel = 0; index = None; position = (0, 0); span = None }
 
 abbrev pub token_at : List Fields → ℕ → Fields
 token_at ts k = slice_index_or ts k no_token

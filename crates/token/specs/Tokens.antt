@@ -4,12 +4,14 @@ use Rattle.token.specs.declared.token_type.TokenType.{TokenType}
 use Rattle.token.specs.declared.token_type.TokenType.TheVariants.{Eof, Of}
 use Rattle.token.specs.declared.token_type.Span.{Span}
 
--- The fields that tokens of every kind have. A token that was made up has no own index.
+-- All that a token of any kind says of itself. A token that was made up has no own index, and a kind may have no start and
+-- stop.
 pub record Fields : Type 0 where
   pub typ : TokenType
   pub channel : ℕ
   pub index : Option ℕ
   pub position : ℕ × ℕ
+  pub span : Option Span
 
 -- the number of a type, and of an own index
 abbrev pub type_number : TokenType → ℤ

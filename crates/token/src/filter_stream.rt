@@ -149,6 +149,8 @@ impl<'a, S: TokenStream<'a>> TokenStream<'a> for Filter<'a, S> {
 
     type Factory = S::Factory;
 
+    ghost own_factory = { λ f. S.own_factory f.below };
+
     fn lt(&mut self, k: i32) -> &'a S::Tok {
         let j = self.seek(k);
         self.below.lt(j)

@@ -1,5 +1,5 @@
 // The two kinds of token: words of a text, and events of a lane.
-ghost use Rattle.std.specs.Prelude.{Some, None, true, false};
+ghost use Rattle.std.specs.Prelude.{true, false};
 ghost use Rattle.token.specs.Kinds.{word_fields, lane_fields};
 
 use crate::token::{Token, TokenFactory};
@@ -34,8 +34,6 @@ pub struct LaneFactory;
 impl Token for WordToken {
     ghost fields = { word_fields };
 
-    ghost span = { λ t. Some t.span };
-
     fn token_type(&self) -> TokenType {
         self.token_type
     }
@@ -59,8 +57,6 @@ impl Token for WordToken {
 
 impl Token for LaneToken {
     ghost fields = { lane_fields };
-
-    ghost span = { λ _. None };
 
     fn token_type(&self) -> TokenType {
         self.token_type

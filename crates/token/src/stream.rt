@@ -38,6 +38,9 @@ pub trait TokenStream<'a>: IntStream {
 
     type Factory: TokenFactory<Tok = Self::Tok>;
 
+    // What makes tokens of the stream's kind.
+    ghost own_factory: { Self → Self.Factory };
+
     // The k-th token ahead, counted from 1.
     fn lt(&mut self, k: i32) -> &'a Self::Tok
         ensures keeps_tape { Self.tape self.new ≡ Self.tape self.old }
@@ -48,5 +51,6 @@ pub trait TokenStream<'a>: IntStream {
     fn get(&self, i: i32) -> &'a Self::Tok
         ensures { Self.Tok.fields result.now ≡ tape_at (Self.tape self.now) i };
 
-    fn factory(&self) -> &Self::Factory;
+    fn factory(&self) -> &Self::Factory
+        ensures { result.now ≡ own_factory self.now };
 }

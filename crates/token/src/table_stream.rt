@@ -47,6 +47,8 @@ impl<'a, T: Token + 'a, F: TokenFactory<Tok = T>> TokenStream<'a> for TokenTable
 
     type Factory = F;
 
+    ghost own_factory = { λ s. s.factory };
+
     fn lt(&mut self, k: i32) -> &'a T {
         self.ahead(k)
     }

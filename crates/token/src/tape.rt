@@ -47,6 +47,7 @@ impl<'a, T: Token, F: Drop> TokenTable<'a, T, F> {
         ensures verdict { DeniesFirst (TapeFault (map T.fields tokens.now)) result }
         ensures whole { IfOk result (λ t. t.tokens.now ≡ tokens.now) }
         ensures from_the_start { IfOk result (λ t. t.place ≡ 0) }
+        ensures factory { IfOk result (λ t. t.factory ≡ factory) }
     {
         if !is_tape(tokens) {
             return Err(Denial::FaultyTape);

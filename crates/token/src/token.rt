@@ -1,15 +1,12 @@
 // Tokens of every kind, and what makes them.
-ghost use Rattle.std.specs.Prelude.{◌≡◌, Bool, Option};
+ghost use Rattle.std.specs.Prelude.{◌≡◌, Bool};
 ghost use Rattle.token.specs.Tokens.{Fields, kept_span};
-ghost use Rattle.token.specs.declared.token_type.Span.{Span as SpanFields};
 
 use crate::token_type::{Span, TokenType};
 
 // What is asked of a token.
 pub trait Token {
     ghost fields: { Self → Fields };
-
-    ghost span: { Self → Option SpanFields };
 
     fn token_type(&self) -> TokenType
         ensures { result ≡ (fields self.now).typ };
@@ -27,7 +24,7 @@ pub trait Token {
 
     // Start and stop, if the kind has them.
     fn span(&self) -> Option<Span>
-        ensures { result ≡ span self.now };
+        ensures { result ≡ (fields self.now).span };
 }
 
 // Makes tokens of one kind. With no index a token is made up.
@@ -44,6 +41,5 @@ pub trait TokenFactory {
         position: (u32, u32),
         span: Span,
     ) -> Self::Tok
-        ensures fields { Self.Tok.fields result ≡ record { typ = «token_type»; channel = channel; index = index; position = position } }
-        ensures span { Self.Tok.span result ≡ kept_span has_span span };
+        ensures { Self.Tok.fields result ≡ record { typ = «token_type»; channel = channel; index = index; position = position; span = kept_span has_span span } };
 }
