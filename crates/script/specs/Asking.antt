@@ -1,17 +1,18 @@
 -- What a script asks beside its net, and what a line does to both.
-use Rattle.std.specs.Prelude.{◌≡◌, ◌<◌, List, [], length, Err, vec_items, Result, is_ok, true}
+use Rattle.std.specs.Prelude.{◌≡◌, ◌<◌, ℕ, List, [], length, None, Err, vec_items, Result, is_ok, true}
 use Rattle.script.specs.declared.script.Script.{Script}
 use Rattle.script.specs.declared.script_line.LookaheadKind.{LookaheadKind}
 use Rattle.script.specs.declared.script_line.LookaheadKind.TheVariants.{Walker}
 use Rattle.script.specs.declared.script_line.ScriptLine.{ScriptLine}
 use Rattle.script.specs.declared.script_line.ScriptLine.TheVariants.{Row, Lookahead, Asked}
 use Rattle.script.specs.declared.question.AskWord.{AskWord}
+use Rattle.script.specs.declared.question.AskWord.TheVariants as word
 use Rattle.script.specs.declared.question.Question.{Question}
 use Rattle.script.specs.declared.error.Fault.{Fault}
 use Rattle.script.specs.declared.error.Fault.TheVariants.{WrongQuestion, TooLate}
 use Rattle.script.specs.Contents.{Content, Applied, RowAdded}
-use Rattle.script.specs.Lines.{LineFault}
-use Rattle.script.specs.Questions.{ask_word}
+use Rattle.script.specs.Lines.{BeginsWith, LineFault, Spelt, keyword_of, spelling}
+use Rattle.script.specs.Questions.{AskSpelt, ask_spelling, ask_word}
 
 -- how the questions are worked out, and the questions in their order
 pub record Asking : Type 0 where
@@ -29,6 +30,16 @@ nothing_asked = record { lookahead = Walker; questions = [] }
 abbrev pub ScriptLineFault : Fault → Type 0
 ScriptLineFault (WrongQuestion w) = Unit {0}
 ScriptLineFault f = LineFault f
+
+-- the word that the line begins with
+abbrev pub first_word : ScriptLine → List ℕ
+first_word (Row d) = spelling (keyword_of d)
+first_word (Lookahead l) = ask_spelling word.Lookahead
+first_word (Asked q) = ask_spelling (ask_word q.ask)
+
+-- the line begins with a word that is no keyword and asks nothing
+abbrev pub HasUnknownWord : List ℕ → Type 0
+HasUnknownWord line = (w : List ℕ) × BeginsWith line w × Spelt w None × AskSpelt w None
 
 -- the line names a lookahead
 abbrev pub IsLookahead : ScriptLine → Type 0

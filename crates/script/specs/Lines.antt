@@ -1,11 +1,42 @@
 -- What a line says: the directive that its first word and its numbers give.
-use Rattle.std.specs.Prelude.{◌≡◌, ℕ, ◌+◌, cond, List, length, ℤ, pos, Some, None, codes, fold, Option, ◌==◌, ◌≢◌, slice_index_or}
+use Rattle.std.specs.Prelude.{◌≡◌, ◌⊎◌, ℕ, ◌+◌, ◌<◌, true, false, cond, List, [], ◌∷◌, ◌++◌, length, All, ℤ, pos, Some, None, codes, fold, Option, ◌==◌, ◌≢◌, slice_index, slice_index_or}
+use Rattle.std.specs.Char.{is_ascii_whitespace}
 use Rattle.script.specs.declared.directive.Directive.{Directive}
 use Rattle.script.specs.declared.directive.Directive.TheVariants.{Net, Counts, Rule, State, Edge, Interval, Summary}
 use Rattle.script.specs.declared.error.Fault.{Fault}
 use Rattle.script.specs.declared.error.Fault.TheVariants.{UnknownWord, WrongForm, FullTable, NoNet, Memory, WrongQuestion, TooLate}
 use Rattle.script.specs.declared.keyword.Keyword.{Keyword}
 use Rattle.script.specs.declared.keyword.Keyword.TheVariants as keyword
+
+-- all of it is ASCII white space
+abbrev pub IsBlank : List ℕ → Type 0
+IsBlank bs = All (λ b. is_ascii_whitespace b ≡ true) bs
+
+-- one byte or more, and none of them ASCII white space
+abbrev pub IsWord : List ℕ → Type 0
+IsWord w = (0 < length w) × All (λ b. is_ascii_whitespace b ≡ false) w
+
+-- what follows a word: nothing, or ASCII white space first
+abbrev pub EndsWord : List ℕ → Type 0
+EndsWord [] = Unit {0}
+EndsWord (b ∷ bs) = is_ascii_whitespace b ≡ true
+
+-- The line's first word is w: blanks may stand before it, and a blank or nothing follows it.
+pub record BeginsWith (line w : List ℕ) : Type 0 where
+  pub gap : List ℕ
+  pub rest : List ℕ
+  pub parts : line ≡ gap ++ (w ++ rest)
+  pub blank : IsBlank gap
+  pub word : IsWord w
+  pub ended : EndsWord rest
+
+-- a comment's first word begins with '#'
+abbrev pub IsComment : List ℕ → Type 0
+IsComment line = (w : List ℕ) × BeginsWith line w × (slice_index w 0 ≡ 35)
+
+-- a blank line, or a comment
+abbrev pub SaysNothing : List ℕ → Type 0
+SaysNothing line = IsBlank line ⊎ IsComment line
 
 -- the word as it is written
 abbrev pub spelling : Keyword → List ℕ
@@ -41,6 +72,10 @@ keyword_of (State s) = keyword.State
 keyword_of (Edge e) = keyword.Edge
 keyword_of (Interval i) = keyword.Interval
 keyword_of Summary = keyword.Summary
+
+-- the line begins with a word that is no keyword
+abbrev pub HasNoKeyword : List ℕ → Type 0
+HasNoKeyword line = (w : List ℕ) × BeginsWith line w × Spelt w None
 
 -- number i of the line, from 0
 abbrev pub number : List ℤ → ℕ → ℤ

@@ -1,6 +1,6 @@
-ghost use Rattle.std.specs.Prelude.{◌≡◌, ◌⊎◌, IfErr};
-ghost use Rattle.script.specs.Lines.{Formed, LineFault};
-ghost use Rattle.script.specs.declared.error.Fault.TheVariants.{Memory};
+ghost use Rattle.std.specs.Prelude.{◌≡◌, ◌⊎◌, IfNone, IfSome, IfOk, IfErr};
+ghost use Rattle.script.specs.Lines.{BeginsWith, Formed, HasNoKeyword, LineFault, SaysNothing, keyword_of, spelling};
+ghost use Rattle.script.specs.declared.error.Fault.TheVariants.{UnknownWord, Memory};
 
 use crate::directive::Directive;
 use crate::error::Fault;
@@ -41,7 +41,10 @@ impl Directive {
 
     // What the line says. A blank line and a comment say nothing.
     pub fn read(heap: Global, line: &str) -> Result<Option<Directive>, Fault>
-        ensures { IfErr result LineFault }
+        ensures nothing { IfOk result (λ said. IfNone said (SaysNothing line.now)) }
+        ensures word { IfOk result (λ said. IfSome said (λ d. BeginsWith line.now (spelling (keyword_of d)))) }
+        ensures unknown { IfErr result (λ f. f ≡ UnknownWord → HasNoKeyword line.now) }
+        ensures fault { IfErr result LineFault }
     {
         let mut words = line.split_ascii_whitespace();
         let Some(first) = words.next() else {
