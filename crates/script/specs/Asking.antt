@@ -1,5 +1,5 @@
 -- What a script asks beside its net, and what a line does to both.
-use Rattle.std.specs.Prelude.{◌≡◌, ◌<◌, ℕ, List, [], length, None, Err, vec_items, Result, is_ok, true}
+use Rattle.std.specs.Prelude.{◌≡◌, ◌<◌, ◌⊎◌, ℕ, List, [], ◌∷◌, ◌++◌, length, None, Ok, Err, vec_items, Result, is_ok, true}
 use Rattle.script.specs.declared.script.Script.{Script}
 use Rattle.script.specs.declared.script_line.LookaheadKind.{LookaheadKind}
 use Rattle.script.specs.declared.script_line.LookaheadKind.TheVariants.{Walker}
@@ -10,8 +10,8 @@ use Rattle.script.specs.declared.question.AskWord.TheVariants as word
 use Rattle.script.specs.declared.question.Question.{Question}
 use Rattle.script.specs.declared.error.Fault.{Fault}
 use Rattle.script.specs.declared.error.Fault.TheVariants.{WrongQuestion, TooLate}
-use Rattle.script.specs.Contents.{Content, Applied, RowAdded}
-use Rattle.script.specs.Lines.{BeginsWith, LineFault, Spelt, keyword_of, spelling}
+use Rattle.script.specs.Contents.{Content, Applied, RowAdded, nothing_said}
+use Rattle.script.specs.Lines.{BeginsWith, LineFault, SaysNothing, Spelt, keyword_of, spelling}
 use Rattle.script.specs.Questions.{AskSpelt, ask_spelling, ask_word}
 
 -- how the questions are worked out, and the questions in their order
@@ -63,3 +63,14 @@ abbrev pub Taken : ScriptLine → Content → Asking → Result (Unit {0}) Fault
 Taken (Row d) k a r k' a' = (a' ≡ a) × Early a r (Applied d k r k') (k' ≡ k)
 Taken (Lookahead l) k a r k' a' = (k' ≡ k) × Early a r ((is_ok r ≡ true) × (a' ≡ record a { lookahead = l })) (a' ≡ a)
 Taken (Asked q) k a r k' a' = (k' ≡ k) × (a'.lookahead ≡ a.lookahead) × RowAdded a.questions q r a'.questions
+
+-- A line of text, read and taken in. One that says nothing changes nothing, and neither does a refused one; any other is
+-- taken in as what its first word says.
+abbrev pub LineTaken : List ℕ → Content → Asking → Result (Unit {0}) Fault → Content → Asking → Type 0
+LineTaken line k a (Ok u) k' a' = (SaysNothing line × (k' ≡ k) × (a' ≡ a)) ⊎ ((x : ScriptLine) × BeginsWith line (first_word x) × Taken x k a (Ok u) k' a')
+LineTaken line k a (Err f) k' a' = (k' ≡ k) × (a' ≡ a)
+
+-- The lines, taken one after the other into an empty script, give one that says k of its net and asks a.
+pub data Reads : List (List ℕ) → Content → Asking → Type 0 where
+  none : Reads [] nothing_said nothing_asked
+  more : {lines : List (List ℕ)} {line : List ℕ} {k k' : Content} {a a' : Asking} → Reads lines k a → LineTaken line k a (Ok tt) k' a' → Reads (lines ++ line ∷ []) k' a'

@@ -141,7 +141,11 @@ const NO_QUESTION: [(&str, &str); 8] = [
     ),
 ];
 
-const TOO_LATE: [(&str, &str); 5] = [
+const TOO_LATE: [(&str, &str); 6] = [
+    (
+        "net 1\nwithin 0\nrule 1",
+        "line 3: expected a question: rows and options come before the first one",
+    ),
     (
         "net 1\nwithin 0\nwithn 1",
         "line 3: expected a question: rows and options come before the first one",
