@@ -1,2 +1,3 @@
+pub mod LinesTaken
 pub mod Said
 pub mod Words

@@ -1,6 +1,6 @@
 -- The first word of a line, by what `split_ascii_whitespace` cuts off it.
-use Rattle.std.proofs.Common.{◌≡◌, ◌∙◌, ◌<◌, ◌≤◌, ◌++◌, [], ◌∷◌, ap, false, List, ℕ, Some, arith, get_or, inl, inr, length, refl, subst, sym, true, drop, true≢false}
-use Rattle.std.specs.Prelude.{All}
+use Rattle.std.proofs.Common.{◌+◌, get_or-append-add, length-append, ◌≡◌, ◌∙◌, ◌<◌, ◌≤◌, ◌++◌, [], ◌∷◌, ap, false, List, ℕ, Some, arith, get_or, inl, inr, length, refl, subst, sym, true, drop, true≢false}
+use Rattle.std.specs.Prelude.{All, slice_index}
 use Rattle.std.specs.Borrow.{Bor}
 use Rattle.std.specs.Char.{is_ascii_whitespace}
 use Rattle.std.specs.Str.{NoCharPasses}
@@ -9,7 +9,7 @@ use Rattle.std.proofs.lemmas.Bool.{cases_lt}
 use Rattle.std.proofs.lemmas.Str.{NoCharPasses-byte}
 use Rattle.std.proofs.lemmas.List.Elements.{All-from_get_or, All-tail}
 use Rattle.std.proofs.lemmas.Grind.{common_steps}
-use Rattle.script.specs.Lines.{BeginsWith, EndsWord, IsBlank, IsWord}
+use Rattle.script.specs.Lines.{BeginsWith, EndsWord, IsBlank, IsWord, SaysNothing}
 
 -- a byte past ASCII is no white space
 not_white : (b : ℕ) → 128 ≤ b → is_ascii_whitespace b ≡ false
@@ -68,3 +68,19 @@ same_after_gaps (c ∷ g) v r (d ∷ h) w s e blank_g word_v ended_r blank_h wor
 -- a line has one first word
 pub one_first_word : (line v w : List ℕ) → BeginsWith line v → BeginsWith line w → v ≡ w
 one_first_word line v w a b = same_after_gaps a.gap v a.rest b.gap w b.rest (sym a.parts ∙ b.parts) a.blank a.word a.ended b.blank b.word b.ended
+
+head_of_word : (w rest : List ℕ) → 0 < length w → get_or (w ++ rest) 0 0 ≡ get_or w 0 0
+head_of_word [] rest some = absurd (omega arith)
+head_of_word (c ∷ w) rest some = refl
+
+-- a line with a word is not blank
+not_blank : (line w : List ℕ) → BeginsWith line w → IsBlank line → ⊥
+not_blank line w b blank =
+    let here : get_or line (length b.gap + 0) 0 ≡ get_or w 0 0 = ap (λ l. get_or l (length b.gap + 0) 0) b.parts ∙ get_or-append-add b.gap (w ++ b.rest) 0 0 ∙ head_of_word w b.rest b.word.0 in
+    let within : length b.gap + 0 < length line = omega (arith, ap length b.parts, length-append b.gap (w ++ b.rest), length-append w b.rest, b.word.0) in
+    both_kinds (get_or w 0 0) (subst (λ x. is_ascii_whitespace x ≡ true) here (blank (length b.gap + 0) 0 within)) (b.word.1 0 0 b.word.0)
+
+-- a line whose first word begins with another byte than '#' says something
+pub says_something : (line w : List ℕ) → BeginsWith line w → (slice_index w 0 ≡ 35 → ⊥) → SaysNothing line → ⊥
+says_something line w b other (inl blank) = not_blank line w b blank
+says_something line w b other (inr comment) = other (subst (λ x. slice_index x 0 ≡ 35) (one_first_word line comment.0 w comment.1 b) comment.2)

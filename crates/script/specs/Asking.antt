@@ -9,7 +9,7 @@ use Rattle.script.specs.declared.question.AskWord.{AskWord}
 use Rattle.script.specs.declared.question.AskWord.TheVariants as word
 use Rattle.script.specs.declared.question.Question.{Question}
 use Rattle.script.specs.declared.error.Fault.{Fault}
-use Rattle.script.specs.declared.error.Fault.TheVariants.{WrongQuestion, TooLate}
+use Rattle.script.specs.declared.error.Fault.TheVariants.{UnknownWord, WrongQuestion, TooLate}
 use Rattle.script.specs.Contents.{Content, Applied, RowAdded, nothing_said}
 use Rattle.script.specs.Lines.{BeginsWith, LineFault, SaysNothing, Spelt, keyword_of, spelling}
 use Rattle.script.specs.Questions.{AskSpelt, ask_spelling, ask_word}
@@ -26,11 +26,6 @@ asking s = record { lookahead = s.lookahead; questions = vec_items s.questions }
 abbrev pub nothing_asked : Asking
 nothing_asked = record { lookahead = Walker; questions = [] }
 
--- what can be wrong with a line by itself, also one that asks
-abbrev pub ScriptLineFault : Fault → Type 0
-ScriptLineFault (WrongQuestion w) = Unit {0}
-ScriptLineFault f = LineFault f
-
 -- the word that the line begins with
 abbrev pub first_word : ScriptLine → List ℕ
 first_word (Row d) = spelling (keyword_of d)
@@ -40,6 +35,12 @@ first_word (Asked q) = ask_spelling (ask_word q.ask)
 -- the line begins with a word that is no keyword and asks nothing
 abbrev pub HasUnknownWord : List ℕ → Type 0
 HasUnknownWord line = (w : List ℕ) × BeginsWith line w × Spelt w None × AskSpelt w None
+
+-- What can be wrong with a line by itself, also one that asks. Again the word is its first.
+abbrev pub ScriptLineFault : List ℕ → Fault → Type 0
+ScriptLineFault line UnknownWord = HasUnknownWord line
+ScriptLineFault line (WrongQuestion w) = BeginsWith line (ask_spelling w)
+ScriptLineFault line f = LineFault line f
 
 -- the line names a lookahead
 abbrev pub IsLookahead : ScriptLine → Type 0

@@ -21,7 +21,7 @@ abbrev pub EndsWord : List ℕ → Type 0
 EndsWord [] = Unit {0}
 EndsWord (b ∷ bs) = is_ascii_whitespace b ≡ true
 
--- The line's first word is w: blanks may stand before it, and a blank or nothing follows it.
+-- The line's first word is w: white space or nothing stands before it, and white space or nothing follows it.
 pub record BeginsWith (line w : List ℕ) : Type 0 where
   pub gap : List ℕ
   pub rest : List ℕ
@@ -96,15 +96,15 @@ abbrev pub Formed : Keyword → List ℤ → Option Directive → Type 0
 Formed k ns (Some d) = (keyword_of d ≡ k) × (length ns ≡ numbers_after k) × Holds ns d
 Formed k ns None = length ns ≡ numbers_after k → ⊥
 
--- what can be wrong with a line by itself
-abbrev pub LineFault : Fault → Type 0
-LineFault UnknownWord = Unit {0}
-LineFault (WrongForm k) = Unit {0}
-LineFault FullTable = ⊥
-LineFault NoNet = ⊥
-LineFault Memory = Unit {0}
-LineFault (WrongQuestion w) = ⊥
-LineFault TooLate = ⊥
+-- What can be wrong with a line by itself. The word that is no keyword, or whose form is not kept, is its first.
+abbrev pub LineFault : List ℕ → Fault → Type 0
+LineFault line UnknownWord = HasNoKeyword line
+LineFault line (WrongForm k) = BeginsWith line (spelling k)
+LineFault line FullTable = ⊥
+LineFault line NoNet = ⊥
+LineFault line Memory = Unit {0}
+LineFault line (WrongQuestion w) = ⊥
+LineFault line TooLate = ⊥
 
 -- how many newlines the text has
 abbrev pub newlines : List ℕ → ℕ

@@ -1,6 +1,6 @@
-ghost use Rattle.std.specs.Prelude.{◌≡◌, ◌⊎◌, IfNone, IfSome, IfOk, IfErr};
-ghost use Rattle.script.specs.Lines.{BeginsWith, Formed, HasNoKeyword, LineFault, SaysNothing, keyword_of, spelling};
-ghost use Rattle.script.specs.declared.error.Fault.TheVariants.{UnknownWord, Memory};
+ghost use Rattle.std.specs.Prelude.{◌≡◌, ◌⊎◌, None, Ok, IfNone, IfSome, IfOk, IfErr};
+ghost use Rattle.script.specs.Lines.{BeginsWith, Formed, LineFault, SaysNothing, keyword_of, spelling};
+ghost use Rattle.script.specs.declared.error.Fault.TheVariants.{Memory};
 
 use crate::directive::Directive;
 use crate::error::Fault;
@@ -42,9 +42,9 @@ impl Directive {
     // What the line says. A blank line and a comment say nothing.
     pub fn read(heap: Global, line: &str) -> Result<Option<Directive>, Fault>
         ensures nothing { IfOk result (λ said. IfNone said (SaysNothing line.now)) }
+        ensures passed_over { SaysNothing line.now → result ≡ Ok None }
         ensures word { IfOk result (λ said. IfSome said (λ d. BeginsWith line.now (spelling (keyword_of d)))) }
-        ensures unknown { IfErr result (λ f. f ≡ UnknownWord → HasNoKeyword line.now) }
-        ensures fault { IfErr result LineFault }
+        ensures fault { IfErr result (LineFault line.now) }
     {
         let mut words = line.split_ascii_whitespace();
         let Some(first) = words.next() else {

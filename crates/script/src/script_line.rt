@@ -1,7 +1,7 @@
-ghost use Rattle.std.specs.Prelude.{◌≡◌, ◌⊎◌, true, is_some, IfNone, IfSome, IfOk, IfErr};
-ghost use Rattle.script.specs.Asking.{Asks, HasUnknownWord, IsLookahead, ScriptLineFault, first_word};
+ghost use Rattle.std.specs.Prelude.{◌≡◌, ◌⊎◌, true, None, Ok, is_some, IfNone, IfSome, IfOk, IfErr};
+ghost use Rattle.script.specs.Asking.{Asks, IsLookahead, ScriptLineFault, first_word};
 ghost use Rattle.script.specs.Lines.{BeginsWith, SaysNothing};
-ghost use Rattle.script.specs.declared.error.Fault.TheVariants.{UnknownWord, WrongQuestion, Memory};
+ghost use Rattle.script.specs.declared.error.Fault.TheVariants.{WrongQuestion, Memory};
 ghost use Rattle.script.specs.declared.question.AskWord.TheVariants.{Lookahead};
 
 use crate::directive::Directive;
@@ -33,9 +33,9 @@ impl ScriptLine {
     // What the line says. A blank line and a comment say nothing.
     pub fn read(heap: Global, line: &str) -> Result<Option<ScriptLine>, Fault>
         ensures nothing { IfOk result (λ said. IfNone said (SaysNothing line.now)) }
+        ensures passed_over { SaysNothing line.now → result ≡ Ok None }
         ensures word { IfOk result (λ said. IfSome said (λ x. BeginsWith line.now (first_word x))) }
-        ensures unknown { IfErr result (λ f. f ≡ UnknownWord → HasUnknownWord line.now) }
-        ensures fault { IfErr result ScriptLineFault }
+        ensures fault { IfErr result (ScriptLineFault line.now) }
     {
         let mut words = line.split_ascii_whitespace();
         let Some(first) = words.next() else {
