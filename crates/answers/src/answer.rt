@@ -17,6 +17,7 @@ use std::fmt;
 #[derive(Drop)]
 pub struct ScriptAnswer<'a> {
     about_net: Answer,
+    // kept beside the sets, as a part of the script: there is a set for each question, or none at all
     questions: &'a [Question],
     sets: Vec<Result<IntervalSet, Denial>>,
 }
@@ -49,12 +50,10 @@ fn write_set<W: fmt::Write>(set: &IntervalSet, f: &mut fmt::Formatter<W>) -> fmt
         return write!(f, " {{}}");
     }
     for i in intervals {
-        let low = i.a;
-        let high = i.b;
-        if low == high {
-            write!(f, " {low}")?;
+        if i.a == i.b {
+            write!(f, " {}", i.a)?;
         } else {
-            write!(f, " {low}..{high}")?;
+            write!(f, " {}..{}", i.a, i.b)?;
         }
     }
     Ok(())
@@ -65,22 +64,17 @@ fn write_answer<W: fmt::Write>(
     answer: &Result<IntervalSet, Denial>,
     f: &mut fmt::Formatter<W>,
 ) -> fmt::Result {
-    let words = question.words.as_str();
-    write!(f, "{words}:")?;
+    write!(f, "{}:", question.words)?;
     match answer {
         Ok(set) => write_set(set, f)?,
-        Err(denial) => {
-            let number = denial.number();
-            write!(f, " denied {number}")?;
-        }
+        Err(denial) => write!(f, " denied {}", denial.number())?,
     }
     writeln!(f)
 }
 
 impl fmt::Display for ScriptAnswer<'_> {
     fn fmt<W: fmt::Write>(&self, f: &mut fmt::Formatter<W>) -> fmt::Result {
-        let about_net = &self.about_net;
-        write!(f, "{about_net}")?;
+        write!(f, "{}", self.about_net)?;
         for (question, set) in self.questions.iter().zip(&self.sets) {
             write_answer(question, set, f)?;
         }

@@ -1,6 +1,7 @@
 // Questions about sets, over any lookahead.
-ghost use Rattle.std.specs.Prelude.{◌≡◌, IfOk};
+ghost use Rattle.std.specs.Prelude.{IfOk};
 ghost use Rattle.atn.specs.Checked.{net_of};
+ghost use Rattle.ll1_analyzer.specs.Answers.{Keeps};
 ghost use Rattle.answers.specs.Asking.{Answer, EachAnswered};
 
 use atn::atn::Atn;
@@ -19,8 +20,7 @@ use std::alloc::{AllocError, Global};
 
 // What one question is answered.
 fn answer_one<L: Lookahead>(l: &mut L, ask: &Ask) -> Result<IntervalSet, Denial>
-    ensures keeps_net { L.atn l.new ≡ L.atn l.old }
-    ensures keeps_agreement { L.agrees l.old → L.agrees l.new }
+    ensures keeps { Keeps L.atn L.agrees l.old l.new }
     ensures answers { L.agrees l.old → Answer (net_of (L.atn l.old)) ask.now result }
 {
     match ask {
@@ -39,6 +39,7 @@ fn answer_each<L: Lookahead>(
     ensures { L.agrees l.old → IfOk result (λ v. EachAnswered (net_of (L.atn l.old)) questions.now v.items) }
 {
     let mut answers = Vec::new(heap);
+    // kept as a loop: an answer may alter the lookahead, which no closure of a proved chain may
     for question in questions {
         answers.push(answer_one(l, &question.ask))?;
     }

@@ -9,21 +9,21 @@ use Rattle.atn.specs.Found.{noted}
 use Rattle.atn.specs.Reach.{LeadsOver, LeadsByOver}
 use Rattle.atn.proofs.Growth.{grown_like, grown_both, grown_noted}
 
-module _ (N : ℕ → Type 0) (e d : Transition) (same : e ≡ d) (xs : List ℕ) where
-  by_move : (m : Move) (ys : List ℕ) → m ≡ move_of e.kind → Grown (LeadsByOver N e.target m) xs ys → Grown (LeadsOver N d) xs ys
-  by_move m ys is g = subst (λ x. Grown (LeadsOver N x) xs ys) same (subst (λ m. Grown (LeadsByOver N e.target m) xs ys) is g)
+module _ (N : ℕ → Type 0) (e : Transition) (xs : List ℕ) where
+  by_move : (m : Move) (ys : List ℕ) → m ≡ move_of e.kind → Grown (LeadsByOver N e.target m) xs ys → Grown (LeadsOver N e) xs ys
+  by_move m ys is g = subst (λ m. Grown (LeadsByOver N e.target m) xs ys) is g
 
-  pub along_noted : (ys : List ℕ) → Along ≡ move_of e.kind → ys ≡ noted e.target xs → Grown (LeadsOver N d) xs ys
+  pub along_noted : (ys : List ℕ) → Along ≡ move_of e.kind → ys ≡ noted e.target xs → Grown (LeadsOver N e) xs ys
   along_noted ys is y = by_move Along ys is (subst (Grown (λ k. e.target ≡ k) xs) (sym y) (grown_noted e.target xs))
 
-  pub call_noted : (f : ℕ) (ys : List ℕ) → Call f ≡ move_of e.kind → (N e.target → ⊥) → ys ≡ noted e.target xs → Grown (LeadsOver N d) xs ys
+  pub call_noted : (f : ℕ) (ys : List ℕ) → Call f ≡ move_of e.kind → (N e.target → ⊥) → ys ≡ noted e.target xs → Grown (LeadsOver N e) xs ys
   call_noted f ys is not_null y = by_move (Call f) ys is (grown_like (λ k h. inl h) only (subst (Grown (λ k. e.target ≡ k) xs) (sym y) (grown_noted e.target xs)))
     where
       only : (k : ℕ) → (e.target ≡ k) ⊎ (N e.target × (f ≡ k)) → e.target ≡ k
       only k (inl h) = h
       only k (inr h) = absurd (not_null h.0)
 
-  pub both_noted : (f : ℕ) (ys zs : List ℕ) → Call f ≡ move_of e.kind → N e.target → ys ≡ noted e.target xs → zs ≡ noted f ys → Grown (LeadsOver N d) xs zs
+  pub both_noted : (f : ℕ) (ys zs : List ℕ) → Call f ≡ move_of e.kind → N e.target → ys ≡ noted e.target xs → zs ≡ noted f ys → Grown (LeadsOver N e) xs zs
   both_noted f ys zs is null y z = by_move (Call f) zs is (grown_like to only (grown_both
       (subst (Grown (λ k. e.target ≡ k) xs) (sym y) (grown_noted e.target xs)) (subst (Grown (λ k. f ≡ k) ys) (sym z) (grown_noted f ys))))
     where

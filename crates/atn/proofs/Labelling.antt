@@ -1,20 +1,24 @@
 -- The intervals of a checked net can go into a set.
-use Rattle.std.proofs.Common.{◌≡◌, ℕ, ◌+◌, ◌<◌, ◌≤◌, true, false, ◌||◌, leb, List, [], ◌∷◌, ◌++◌, length, get_or, take, ℤ, pos, negsuc, ◌≤ℤ◌, Ok, Err, Result, sym, ap, ◌∙◌, inl, inr, arith}
-use mathlib.Core.Bool.{or-false, or_assoc}
+use Rattle.std.proofs.Common.{◌≡◌, ℕ, ◌+◌, ◌<◌, ◌≤◌, Bool, true, false, Decides, ◌||◌, leb, List, [], ◌∷◌, length, get_or, take, ℤ, pos, negsuc, ◌≤ℤ◌, Ok, Err, Result, sym, ap, ◌∙◌, inl, inr, arith}
+use mathlib.Core.Bool.{or-false}
 use lib.Signed.{le_z, lt_z}
+use Rattle.std.specs.List.{list_any}
 use Rattle.std.proofs.lemmas.List.{take_more}
+use Rattle.std.proofs.lemmas.List.Folds.{list_any-append}
 use Rattle.std.proofs.lemmas.Int.{ints}
 use Rattle.std.proofs.lemmas.Bool.{or_parts, or_cases, or_right, and_parts, and_from, leb-true, both_ways}
 use Rattle.errors.specs.declared.denial.Denial.{Denial}
 use Rattle.interval_set.specs.declared.interval.Interval.{Interval}
 use Rattle.interval_set.specs.declared.set.IntervalSet.{IntervalSet}
-use Rattle.interval_set.specs.Intervals.{from_to, inside, has, addable, smallest, largest}
+use Rattle.interval_set.specs.Intervals.{from_to, inside, addable, smallest, largest}
 use Rattle.interval_set.specs.Members.{holds, Added}
 use Rattle.interval_set.proofs.Rising.{between}
 use Rattle.atn_graph.specs.declared.graph.Graph.{Graph}
 use Rattle.atn_graph.specs.Tables.{outside, counts_outside}
-use Rattle.atn_graph.specs.Net.{Net, net}
+use Rattle.atn_graph.specs.Net.{Net, net, edges_of}
 use Rattle.atn_graph.specs.Rules.{eof_only, range_fits, interval_fits, all_fit, part, set_fits, counts_of}
+use Rattle.atn.specs.Labels.{takes, TakesAt}
+use Rattle.atn.proofs.Some.{any_edge}
 use Rattle.atn_graph.proofs.Sets.{all_fit_at, part_length}
 
 pub max_few : (g : Graph) → outside 1 255 (net g.lists).max ≡ false
@@ -45,12 +49,9 @@ pub added : (before : IntervalSet) (i : Interval) (r : Result (Unit {0}) Denial)
 added before i (Ok u) after w e = w.1
 added before i (Err d) after w e = absurd (both_ways _ w.0 e)
 
-has_push : (is : List Interval) (i : Interval) (x : ℤ) → has (is ++ i ∷ []) x ≡ (has is x || inside i x)
-has_push [] i x = or-false (inside i x)
-has_push (j ∷ is) i x = ap (λ b. inside j x || b) (has_push is i x) ∙ sym (or_assoc (inside j x) (has is x) (inside i x))
-
-pub has_more : (is : List Interval) (k : ℕ) (d : Interval) (x : ℤ) → k < length is → has (take (k + 1) is) x ≡ (has (take k is) x || inside (get_or is k d) x)
-has_more is k d x l = ap (λ ys. has ys x) (take_more is k d l) ∙ has_push (take k is) (get_or is k d) x
+-- a test of one more
+pub any_more : {X : Type 0} (p : X → Bool) (xs : List X) (k : ℕ) (d : X) → k < length xs → list_any p (take (k + 1) xs) ≡ (list_any p (take k xs) || p (get_or xs k d))
+any_more p xs k d l = ap (list_any p) (take_more xs k d l) ∙ list_any-append p (take k xs) (get_or xs k d ∷ []) ∙ ap (λ b. list_any p (take k xs) || b) (or-false (p (get_or xs k d)))
 
 -- a set that fits has its intervals in the net, and each fits
 pub set_inside : (n : Net) (first count : ℕ) → set_fits n first count ≡ true → first + count ≤ length n.intervals
@@ -60,3 +61,11 @@ pub set_fits_at : (n : Net) (first count k : ℕ) (d : Interval) → set_fits n 
 set_fits_at n first count k d e l =
     let p = and_parts (leb (first + count) (length n.intervals)) (all_fit n (part n first count)) (and_parts (leb 1 count) _ e).1 in
     all_fit_at n (part n first count) k d p.1 (omega (arith, part_length n first count (set_inside n first count e)))
+
+-- a test of a state's edges tells whether one of them takes the type
+pub decides_takes : (g : Graph) (s : ℕ) (x : ℤ) → Decides (list_any (λ e. takes (net g.lists) e.kind x) (edges_of (net g.lists) s)) (TakesAt (net g.lists) s x)
+decides_takes g s x =
+    let d = any_edge g s (λ e. takes (net g.lists) e.kind x) in (
+      λ h. let a = d.0 h in record { edge = a.number; of = (a.from, a.below); takes = a.holds },
+      λ t. d.1 (record { number = t.edge; from = t.of.0; below = t.of.1; holds = t.takes }),
+    )

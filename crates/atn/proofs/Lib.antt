@@ -1,4 +1,5 @@
 pub mod Growth
+pub mod Some
 pub mod Noting
 pub mod Following
 pub mod Steps

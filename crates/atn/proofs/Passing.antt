@@ -12,7 +12,7 @@ use Rattle.atn.specs.Found.{noted}
 use Rattle.atn.specs.Reach.{Null, KnowsNull}
 use Rattle.atn.specs.Passes.{over_by, Falls, AllNull, Pass}
 use Rattle.atn.proofs.Growth.{grown_noted}
-use Rattle.atn.proofs.Steps.{no_edges}
+use Rattle.atn.proofs.Some.{no_edges}
 
 pub pass_none : (n : Net) (xs : List ℕ) → Pass n 0 xs xs
 pass_none n xs = record { right = λ h. h; longer = omega arith; same = λ e. refl; done = λ e s l. absurd (none s l) }
@@ -31,7 +31,7 @@ pass_skip n s a b p d = record { right = p.right; longer = p.longer; same = p.sa
 -- states of a list of null states lead to null states
 null_of_falls : (n : Net) (xs : List ℕ) (s : ℕ) → AllNull n xs → Falls n xs s → Null n s
 null_of_falls n xs s h (inl e) = Null.stops e
-null_of_falls n xs s h (inr v) = at (move_of (edge_at n v.number).kind) refl v.over
+null_of_falls n xs s h (inr v) = at (move_of (edge_at n v.number).kind) refl v.holds
   where
     edge : (m : Move) → move_of (edge_at n v.number).kind ≡ m → HasEdge n s (edge_at n v.number).target m
     edge m is = record { number = v.number; of = (v.from, v.below); leads = refl; moves = is }
@@ -66,9 +66,9 @@ pass_note n s a b c p f is = subst (Pass n (s + 1) a) (sym is) (at (cases_Bool (
 listed_of_null : {n : Net} {s : ℕ} (xs : List ℕ) → ((i : ℕ) → Falls n xs i → elem i xs ≡ true) → Null n s → elem s xs ≡ true
 listed_of_null xs d (Null.stops e) = d _ (inl e)
 listed_of_null {n} xs d (Null.along {t = t} e u) =
-    d _ (inr (record { number = e.number; from = e.of.0; below = e.of.1; over = ap (over_by xs (edge_at n e.number).target) e.moves ∙ subst (λ x. elem x xs ≡ true) (sym e.leads) (listed_of_null {s = t} xs d u) }))
+    d _ (inr (record { number = e.number; from = e.of.0; below = e.of.1; holds = ap (over_by xs (edge_at n e.number).target) e.moves ∙ subst (λ x. elem x xs ≡ true) (sym e.leads) (listed_of_null {s = t} xs d u) }))
 listed_of_null {n} xs d (Null.over {t = t} {f = f} e u v) =
-    d _ (inr (record { number = e.number; from = e.of.0; below = e.of.1; over = ap (over_by xs (edge_at n e.number).target) e.moves ∙ and_from _ _ (subst (λ x. elem x xs ≡ true) (sym e.leads) (listed_of_null {s = t} xs d u)) (listed_of_null {s = f} xs d v) }))
+    d _ (inr (record { number = e.number; from = e.of.0; below = e.of.1; holds = ap (over_by xs (edge_at n e.number).target) e.moves ∙ and_from _ _ (subst (λ x. elem x xs ≡ true) (sym e.leads) (listed_of_null {s = t} xs d u)) (listed_of_null {s = f} xs d v) }))
 
 -- the last pass added nothing
 pub pass_end : (n : Net) (a b : List ℕ) → Pass n (size n) a b → length b ≡ length a → AllNull n a → KnowsNull n b

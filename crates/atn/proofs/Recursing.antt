@@ -1,18 +1,22 @@
 -- Left recursion is a call of the start state at a state that it reaches.
-use Rattle.std.proofs.Common.{◌≡◌, ℕ, ◌<◌, true, false, List, [], length, get_or, sym, refl, ap, ◌∙◌, subst}
-use Rattle.std.proofs.lemmas.Bool.{eq-eqb, eqb-true, both_ways}
+use Rattle.std.proofs.Common.{◌≡◌, ℕ, ◌<◌, ◌≤◌, true, false, Decides, ◌⊎◌, List, [], get_or, sym, refl, ap, ◌∙◌, inl, inr}
+use Rattle.std.specs.List.{list_any}
+use Rattle.std.proofs.lemmas.Bool.{cases_lt, eq-eqb, eqb-true, both_ways}
+use Rattle.atn_graph.specs.declared.graph.Graph.{Graph}
 use Rattle.atn_graph.specs.declared.transition.Move.{Move}
 use Rattle.atn_graph.specs.declared.transition.Move.TheVariants.{Along, Call, Token}
 use Rattle.atn_graph.specs.Kinds.{move_of}
-use Rattle.atn_graph.specs.Net.{Net, edge_at}
-use Rattle.atn.specs.Walks.{HasEdge, LeftRecursiveFrom}
-use Rattle.atn.specs.Reach.{KnowsReached}
-use Rattle.atn.specs.Calls.{calls_by, Calls, Called}
+use Rattle.atn_graph.specs.Net.{Net, net, size, edge_at}
+use Rattle.atn.specs.Walks.{HasEdge, Walk, LeftRecursiveFrom}
+use Rattle.atn.specs.Reach.{Listed, KnowsNull, KnowsReached, KnowsReachedOver}
+use Rattle.atn.specs.Calls.{calls_by, is_call, calls, Calls}
 use Rattle.atn.proofs.Growth.{elem_at, place_of}
+use Rattle.atn.proofs.Some.{no_edges, any_place, place_any, any_edge}
+use Rattle.atn.proofs.Over.{knows_over}
 use Rattle.atn.proofs.Decompose.{visited_of_walk, walk_of_reaches}
 
 edge_of_calls : (n : Net) (s t : ℕ) → Calls n s t → (f : ℕ) × HasEdge n s t (Call f)
-edge_of_calls n s t h = at (move_of (edge_at n h.number).kind) refl h.call
+edge_of_calls n s t h = at (move_of (edge_at n h.number).kind) refl h.holds
   where
     at : (m : Move) → move_of (edge_at n h.number).kind ≡ m → calls_by t (edge_at n h.number).target m ≡ true → (f : ℕ) × HasEdge n s t (Call f)
     at Along is c = absurd (both_ways false refl c)
@@ -24,18 +28,45 @@ calls_of_edge n s t f e = record {
   number = e.number;
   from = e.of.0;
   below = e.of.1;
-  call = ap (calls_by t (edge_at n e.number).target) e.moves ∙ eq-eqb (edge_at n e.number).target t e.leads;
+  holds = ap (calls_by t (edge_at n e.number).target) e.moves ∙ eq-eqb (edge_at n e.number).target t e.leads;
 }
 
--- a state found calls the start state
-pub recursive_found : (n : Net) (s i : ℕ) (xs : List ℕ) → KnowsReached n s xs → i < length xs → Calls n (get_or xs i 0) s → LeftRecursiveFrom n s
-recursive_found n s i xs known l c =
-    let w = walk_of_reaches ((known (get_or xs i 0)).0 (elem_at xs i l)) [] in
-    let e = edge_of_calls n (get_or xs i 0) s c in
-    record { state = get_or xs i 0; pile = w.0; follow = e.0; walk = w.1; calls = e.1 }
+-- past its states a net has no walks
+none_outside : (n : Net) (s : ℕ) → size n ≤ s → LeftRecursiveFrom n s → ⊥
+none_outside n s l r = at r.walk r.calls
+  where
+    at : {k : ℕ} {q : List ℕ} → Walk n s [] k q → HasEdge n k s (Call r.follow) → ⊥
+    at Walk.here e = no_edges n s e.number l e.of
+    at (Walk.along e w) _ = no_edges n s e.number l e.of
+    at (Walk.call e w) _ = no_edges n s e.number l e.of
 
--- and if the rule is left-recursive, one of the states found does
-pub found_recursive : (n : Net) (s : ℕ) (xs : List ℕ) → KnowsReached n s xs → LeftRecursiveFrom n s → Called n xs (length xs) s
-found_recursive n s xs known r =
-    let p = place_of r.state xs ((known r.state).1 (visited_of_walk r.walk)) in
-    record { place = p.0; inside = p.1; before = p.1; calls = subst (λ x. Calls n x s) (sym p.2) (calls_of_edge n r.state s r.follow r.calls) }
+-- A rule is left-recursive if a state that its start state reaches calls the start state.
+module _ (g : Graph) (s : ℕ) (nulls xs : List ℕ) (known : KnowsNull (net g.lists) nulls) where
+  found_recursive : KnowsReached (net g.lists) s xs → Decides (list_any (λ k. calls (net g.lists) k s) xs) (LeftRecursiveFrom (net g.lists) s)
+  found_recursive reached = (there, back)
+    where
+      there : list_any (λ k. calls (net g.lists) k s) xs ≡ true → LeftRecursiveFrom (net g.lists) s
+      there h =
+          let n = net g.lists in
+          let p = any_place (λ k. calls n k s) 0 xs h in
+          let k = get_or xs p.0 0 in
+          let w = walk_of_reaches ((reached k).0 (elem_at xs p.0 p.1)) [] in
+          let e = edge_of_calls n k s ((any_edge g k (is_call s)).0 p.2) in
+          record { state = k; pile = w.0; follow = e.0; walk = w.1; calls = e.1 }
+
+      back : LeftRecursiveFrom (net g.lists) s → list_any (λ k. calls (net g.lists) k s) xs ≡ true
+      back r =
+          let n = net g.lists in
+          let p = place_of r.state xs ((reached r.state).1 (visited_of_walk r.walk)) in
+          let c = (any_edge g r.state (is_call s)).1 (calls_of_edge n r.state s r.follow r.calls) in
+          place_any (λ k. calls n k s) 0 xs p.0 p.1 (ap (λ k. calls n k s) p.2 ∙ c)
+
+  pub decides_recursive : (s < size (net g.lists) → KnowsReachedOver (Listed nulls) (net g.lists) s xs) → (size (net g.lists) ≤ s → xs ≡ []) → Decides (list_any (λ k. calls (net g.lists) k s) xs) (LeftRecursiveFrom (net g.lists) s)
+  decides_recursive inside outside = at (cases_lt s (size (net g.lists)))
+    where
+      at : (s < size (net g.lists)) ⊎ (size (net g.lists) ≤ s) → Decides (list_any (λ k. calls (net g.lists) k s) xs) (LeftRecursiveFrom (net g.lists) s)
+      at (inl l) = found_recursive (knows_over (net g.lists) s xs nulls known (inside l))
+      at (inr l) = (
+        λ h. absurd (both_ways false refl (sym (ap (list_any (λ k. calls (net g.lists) k s)) (outside l)) ∙ h)),
+        λ r. absurd (none_outside (net g.lists) s l r),
+      )

@@ -1,18 +1,17 @@
 -- A step is what one of the state's edges leads to.
-use Rattle.std.proofs.Common.{◌≡◌, ℕ, ◌+◌, ◌<◌, ◌≤◌, ◌⊎◌, sym, refl, subst, inl, inr, arith}
-use Rattle.std.proofs.lemmas.List.{get_or_past}
-use Rattle.std.proofs.lemmas.Bool.{cases_eq, cases_lt}
+use Rattle.std.proofs.Common.{◌≡◌, ℕ, ◌<◌, sym, refl, subst, inl, inr}
 use Rattle.atn_graph.specs.declared.graph.Graph.{Graph}
 use Rattle.atn_graph.specs.declared.transition.Move.{Move}
 use Rattle.atn_graph.specs.declared.transition.Move.TheVariants.{Along, Call, Token}
 use Rattle.atn_graph.specs.Kinds.{move_of}
-use Rattle.atn_graph.specs.Net.{Net, net, size, Of, no_state, state_at, edge_at}
+use Rattle.atn_graph.specs.Net.{Net, net, size, Of, state_at, edge_at}
 use Rattle.atn_graph.proofs.Inside.{target_inside, follow_inside}
-use Rattle.atn.specs.Reach.{StepOver, ReachesOver, LeadsOver, LeadsByOver, LeadsAmongOver}
+use Rattle.atn.proofs.Some.{edge_state}
+use Rattle.atn.specs.Reach.{StepOver, ReachesOver, LeadsByOver, LeadsAmongOver}
 
 module _ (N : ℕ → Type 0) (n : Net) (s k : ℕ) where
   among_all : (j : ℕ) → Of n s j → (m : Move) → move_of (edge_at n j).kind ≡ m → LeadsByOver N (edge_at n j).target m k → LeadsAmongOver N n (state_at n s).first (state_at n s).end k
-  among_all j of m is l = record { number = j; from = of.0; below = of.1; leads = subst (λ x. LeadsByOver N (edge_at n j).target x k) (sym is) l }
+  among_all j of m is l = record { number = j; from = of.0; below = of.1; holds = subst (λ x. LeadsByOver N (edge_at n j).target x k) (sym is) l }
 
 pub step_leads : (N : ℕ → Type 0) (n : Net) (s k : ℕ) → StepOver N n s k → LeadsAmongOver N n (state_at n s).first (state_at n s).end k
 step_leads N n s k (StepOver.along e) = among_all N n s k e.number e.of Along e.moves e.leads
@@ -20,41 +19,13 @@ step_leads N n s k (StepOver.into {f = f} e) = among_all N n s k e.number e.of (
 step_leads N n s k (StepOver.over e u) = among_all N n s k e.number e.of (Call k) e.moves (inr (subst N (sym e.leads) u, refl))
 
 pub leads_step : (N : ℕ → Type 0) (n : Net) (s k : ℕ) → LeadsAmongOver N n (state_at n s).first (state_at n s).end k → StepOver N n s k
-leads_step N n s k h = at (move_of (edge_at n h.number).kind) refl h.leads
+leads_step N n s k h = at (move_of (edge_at n h.number).kind) refl h.holds
   where
     at : (m : Move) → move_of (edge_at n h.number).kind ≡ m → LeadsByOver N (edge_at n h.number).target m k → StepOver N n s k
     at Along is l = StepOver.along (record { number = h.number; of = (h.from, h.below); leads = l; moves = is })
     at (Call f) is (inl l) = StepOver.into {f = f} (record { number = h.number; of = (h.from, h.below); leads = l; moves = is })
     at (Call f) is (inr l) = subst (StepOver N n s) l.1 (StepOver.over (record { number = h.number; of = (h.from, h.below); leads = refl; moves = is }) l.0)
     at Token is none = absurd none
-
-pub among_none : (N : ℕ → Type 0) (n : Net) (low k : ℕ) → LeadsAmongOver N n low low k → ⊥
-among_none N n low k h = omega (arith, h.from, h.below)
-
-pub among_more : (N : ℕ → Type 0) (n : Net) (low j k : ℕ) → low ≤ j → LeadsAmongOver N n low j k ⊎ LeadsOver N (edge_at n j) k → LeadsAmongOver N n low (j + 1) k
-among_more N n low j k l (inl h) = record { number = h.number; from = h.from; below = omega (arith, h.below); leads = h.leads }
-among_more N n low j k l (inr h) = record { number = j; from = l; below = omega arith; leads = h }
-
-pub among_last : (N : ℕ → Type 0) (n : Net) (low j k : ℕ) → LeadsAmongOver N n low (j + 1) k → LeadsAmongOver N n low j k ⊎ LeadsOver N (edge_at n j) k
-among_last N n low j k h = at (cases_eq h.number j)
-  where
-    at : (h.number ≡ j) ⊎ (h.number ≡ j → ⊥) → LeadsAmongOver N n low j k ⊎ LeadsOver N (edge_at n j) k
-    at (inl e) = inr (subst (λ x. LeadsOver N (edge_at n x) k) e h.leads)
-    at (inr ne) = inl (record { number = h.number; from = h.from; below = omega (arith, h.below, ne); leads = h.leads })
-
--- past its states a net has no edges
-pub no_edges : (n : Net) (s j : ℕ) → size n ≤ s → Of n s j → ⊥
-no_edges n s j l of = none (subst (λ x. j < x.end) (get_or_past n.states s no_state l) of.1)
-  where
-    none : j < 0 → ⊥
-    none h = omega arith
-
-pub edge_state : (n : Net) (s j : ℕ) → Of n s j → s < size n
-edge_state n s j of = at (cases_lt s (size n))
-  where
-    at : (s < size n) ⊎ (size n ≤ s) → s < size n
-    at (inl l) = l
-    at (inr l) = absurd (no_edges n s j l of)
 
 -- a step from a state of the net leads to a state of the net
 pub step_inside : (N : ℕ → Type 0) (g : Graph) (s k : ℕ) → StepOver N (net g.lists) s k → k < size (net g.lists)

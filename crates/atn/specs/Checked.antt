@@ -1,9 +1,8 @@
 -- The checked net, when tables are denied one, and what it tells of itself.
-use Rattle.std.specs.Prelude.{◌≡◌, ℕ, ◌<◌, ◌≤◌, List, length, Option, Some, None, MatchOption, nat_lt, if◌then◌else◌, slice_index_or, slice_range}
+use Rattle.std.specs.Prelude.{◌≡◌, ℕ, ◌<◌, ◌≤◌, List, length, Option, Some, None, MatchOption, nat_lt, if◌then◌else◌, slice_index_or}
 use Rattle.errors.specs.declared.denial.Denial.{Denial}
 use Rattle.errors.specs.declared.denial.Denial.TheVariants.{ShortTable, OutsideLimits, BrokenRule, LeftRecursion}
 use Rattle.atn_graph.specs.declared.atn_state.StateKind.{StateKind}
-use Rattle.atn_graph.specs.declared.transition.Transition.{Transition}
 use Rattle.atn_graph.specs.Tables.{Rows}
 use Rattle.atn_graph.specs.Net.{Net, net, size, rule_at, state_at}
 use Rattle.atn_graph.specs.Written.{Writes}
@@ -21,10 +20,6 @@ Fault t OutsideLimits = TableFault t OutsideLimits
 Fault t BrokenRule = TableFault t BrokenRule
 Fault t LeftRecursion = (n : Net) × Writes t n × HasLeftRecursion n
 Fault t _ = ⊥
-
--- the edges of state s, none past the last state
-abbrev pub edges_of : Net → ℕ → List Transition
-edges_of n s = slice_range n.edges (state_at n s).first (state_at n s).end
 
 -- the kind of state s, none past the last state
 abbrev pub kind_of : Net → ℕ → Option StateKind

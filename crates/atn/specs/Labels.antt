@@ -1,11 +1,11 @@
 -- Which token types an edge takes.
-use Rattle.std.specs.Prelude.{◌≡◌, ℕ, ◌<◌, ◌≤◌, Bool, false, not, ◌&&◌, length, ℤ, pos, Option, MatchOption}
+use Rattle.std.specs.Prelude.{◌≡◌, ℕ, ◌<◌, ◌≤◌, Bool, true, false, not, ◌&&◌, length, ℤ, pos, Option, MatchOption}
 use Rattle.interval_set.specs.declared.set.IntervalSet.{IntervalSet}
 use Rattle.interval_set.specs.Intervals.{from_to, inside, has}
 use Rattle.interval_set.specs.Members.{holds}
 use Rattle.atn_graph.specs.declared.transition.TransitionKind.{TransitionKind}
 use Rattle.atn_graph.specs.declared.transition.TransitionKind.TheVariants.{Epsilon, Range, Rule, Predicate, Atom, Action, Set, NotSet, Wildcard, Precedence}
-use Rattle.atn_graph.specs.Net.{Net, edge_at}
+use Rattle.atn_graph.specs.Net.{Net, Of, edge_at}
 use Rattle.atn_graph.specs.Rules.{part}
 
 -- x is a token type of the net
@@ -29,3 +29,9 @@ takes n Precedence x = false
 -- the label of edge number j, and none exactly past the last edge
 abbrev pub Labels : Net → ℕ → Option IntervalSet → Type 0
 Labels n j r = MatchOption r (length n.edges ≤ j) (λ s. (j < length n.edges) × ((x : ℤ) → holds s x ≡ takes n (edge_at n j).kind x))
+
+-- one of the edges of state s takes the type x
+pub record TakesAt (n : Net) (s : ℕ) (x : ℤ) : Type 0 where
+  pub edge : ℕ
+  pub of : Of n s edge
+  pub takes : takes n (edge_at n edge).kind x ≡ true

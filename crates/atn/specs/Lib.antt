@@ -1,4 +1,5 @@
 pub mod Walks
+pub mod Among
 pub mod Marks
 pub mod Found
 pub mod Reach

@@ -4,7 +4,8 @@ use Rattle.atn_graph.specs.declared.transition.Move.{Move}
 use Rattle.atn_graph.specs.declared.transition.Move.TheVariants.{Along, Call, Token}
 use Rattle.atn_graph.specs.declared.transition.Transition.{Transition}
 use Rattle.atn_graph.specs.Kinds.{move_of}
-use Rattle.atn_graph.specs.Net.{Net, state_at, edge_at}
+use Rattle.atn_graph.specs.Net.{Net, state_at}
+use Rattle.atn.specs.Among.{Among}
 use Rattle.atn.specs.Walks.{Stop}
 use Rattle.atn.specs.Marks.{elem}
 use Rattle.atn.specs.Reach.{Null}
@@ -19,11 +20,8 @@ abbrev pub over_listed : List ℕ → Transition → Bool
 over_listed xs e = over_by xs e.target (move_of e.kind)
 
 -- one of the edges from number low up to number high does
-pub record OverAmong (n : Net) (xs : List ℕ) (low high : ℕ) : Type 0 where
-  pub number : ℕ
-  pub from : low ≤ number
-  pub below : number < high
-  pub over : over_listed xs (edge_at n number) ≡ true
+abbrev pub OverAmong : Net → List ℕ → ℕ → ℕ → Type 0
+OverAmong n xs low high = Among (λ e. over_listed xs e ≡ true) n low high
 
 -- s is a stop state, or one of its edges does
 abbrev pub Falls : Net → List ℕ → ℕ → Type 0

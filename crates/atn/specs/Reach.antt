@@ -1,10 +1,11 @@
 -- The states that walks come to, without piles: a walk never looks below the top of its pile.
-use Rattle.std.specs.Prelude.{◌≡◌, ℕ, ◌<◌, ◌≤◌, true, ◌⊎◌, List}
+use Rattle.std.specs.Prelude.{◌≡◌, ℕ, true, ◌⊎◌, List}
 use Rattle.atn_graph.specs.declared.transition.Move.{Move}
 use Rattle.atn_graph.specs.declared.transition.Move.TheVariants.{Along, Call, Token}
 use Rattle.atn_graph.specs.declared.transition.Transition.{Transition}
 use Rattle.atn_graph.specs.Kinds.{move_of}
-use Rattle.atn_graph.specs.Net.{Net, edge_at}
+use Rattle.atn_graph.specs.Net.{Net}
+use Rattle.atn.specs.Among.{Among}
 use Rattle.atn.specs.Walks.{Stop, HasEdge}
 use Rattle.atn.specs.Marks.{elem}
 
@@ -45,11 +46,8 @@ abbrev pub LeadsOver : (ℕ → Type 0) → Transition → ℕ → Type 0
 LeadsOver N e k = LeadsByOver N e.target (move_of e.kind) k
 
 -- one of the edges from number low up to number high leads to k
-pub record LeadsAmongOver (N : ℕ → Type 0) (n : Net) (low high k : ℕ) : Type 0 where
-  pub number : ℕ
-  pub from : low ≤ number
-  pub below : number < high
-  pub leads : LeadsOver N (edge_at n number) k
+abbrev pub LeadsAmongOver : (ℕ → Type 0) → Net → ℕ → ℕ → ℕ → Type 0
+LeadsAmongOver N n low high k = Among (λ e. LeadsOver N e k) n low high
 
 -- the same over the rules that are null
 abbrev pub LeadsBy : Net → ℕ → Move → ℕ → Type 0

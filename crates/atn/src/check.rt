@@ -7,7 +7,6 @@ ghost use Rattle.atn_graph.specs.Written.{Writes};
 ghost use Rattle.atn.specs.Checked.{net_of, Fault, Picks};
 
 use crate::atn::Atn;
-use crate::reach::{edge, rule, state};
 use crate::recursion::is_left_recursive;
 use atn_graph::atn_state::AtnState;
 use atn_graph::graph::Graph;
@@ -38,57 +37,45 @@ impl Atn {
     pub fn rule_count(&self) -> usize
         ensures { result ≡ length (net_of self.now).rules }
     {
-        self.graph.lists.rule_count
+        self.graph.lists.rules.len()
     }
 
     pub fn state_count(&self) -> usize
         ensures { result ≡ size (net_of self.now) }
     {
-        self.graph.lists.state_count
+        self.graph.lists.states.len()
     }
 
     pub fn edge_count(&self) -> usize
         ensures { result ≡ length (net_of self.now).edges }
     {
-        self.graph.lists.edge_count
+        self.graph.lists.edges.len()
     }
 
     pub fn interval_count(&self) -> usize
         ensures { result ≡ length (net_of self.now).intervals }
     {
-        self.graph.lists.interval_count
+        self.graph.lists.intervals.len()
     }
 
     // The rule number r, None past the last.
     pub fn rule(&self, r: usize) -> Option<Rule>
         ensures { Picks (net_of self.now).rules no_rule r result }
     {
-        if r < self.rule_count() {
-            Some(rule(&self.graph, r))
-        } else {
-            None
-        }
+        self.graph.lists.rules.get(r).copied()
     }
 
     // The state number s, None past the last.
     pub fn state(&self, s: usize) -> Option<AtnState>
         ensures { Picks (net_of self.now).states no_state s result }
     {
-        if s < self.state_count() {
-            Some(state(&self.graph, s))
-        } else {
-            None
-        }
+        self.graph.lists.states.get(s).copied()
     }
 
     // The edge number j, None past the last.
     pub fn edge(&self, j: usize) -> Option<Transition>
         ensures { Picks (net_of self.now).edges no_edge j result }
     {
-        if j < self.edge_count() {
-            Some(edge(&self.graph, j))
-        } else {
-            None
-        }
+        self.graph.lists.edges.get(j).copied()
     }
 }

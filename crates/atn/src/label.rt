@@ -1,10 +1,10 @@
 // The labels of edges: the token types that an edge takes.
-ghost use Rattle.std.specs.Prelude.{◌≡◌, true, ℤ};
+ghost use Rattle.std.specs.Prelude.{◌≡◌, true, ℤ, ◌⊎◌, Decides};
 ghost use Rattle.interval_set.specs.Intervals.{inside, has};
 ghost use Rattle.interval_set.specs.Members.{holds};
-ghost use Rattle.atn_graph.specs.Rules.{part, interval_fits, set_fits};
+ghost use Rattle.atn_graph.specs.Rules.{part, interval_fits, set_fits, LabelFits};
 ghost use Rattle.atn.specs.Checked.{net_of};
-ghost use Rattle.atn.specs.Labels.{is_type, takes, Labels};
+ghost use Rattle.atn.specs.Labels.{is_type, takes, Labels, TakesAt};
 
 use crate::atn::Atn;
 use atn_graph::transition::TransitionKind;
@@ -29,9 +29,9 @@ impl Atn {
         ensures { (x : ℤ) → holds result x ≡ has (part (net_of self.now) first count) x }
     {
         let mut set = IntervalSet::new();
-        for k in 0..count {
+        for i in &self.graph.lists.intervals[first..first + count] {
             // each lies within -1..255, so none is denied
-            let _ = set.add_interval(self.graph.lists.intervals[first + k]);
+            let _ = set.add_interval(*i);
         }
         set
     }
@@ -46,18 +46,14 @@ impl Atn {
         })
     }
 
-    // The types that the edge number j takes, None past the last edge.
-    pub fn label(&self, j: usize) -> Option<IntervalSet>
-        ensures { Labels (net_of self.now) j result }
+    // The types that an edge of the kind takes.
+    fn kind_label(&self, kind: TransitionKind) -> IntervalSet
+        requires { LabelFits (net_of self.now) kind }
+        ensures { (x : ℤ) → holds result x ≡ takes (net_of self.now) kind x }
     {
-        let kind = self.edge(j)?.kind;
-        let label = match kind {
-            TransitionKind::Epsilon => IntervalSet::new(),
+        match kind {
             TransitionKind::Range(i) => self.interval_label(i),
-            TransitionKind::Rule { rule: _, follow: _ } => IntervalSet::new(),
-            TransitionKind::Predicate => IntervalSet::new(),
             TransitionKind::Atom(t) => self.interval_label(Interval { a: t, b: t }),
-            TransitionKind::Action => IntervalSet::new(),
             TransitionKind::Set { first, count } => self.set_label(first, count),
             TransitionKind::NotSet { first, count } => {
                 let mut types = self.types();
@@ -65,8 +61,28 @@ impl Atn {
                 types
             }
             TransitionKind::Wildcard => self.types(),
-            TransitionKind::Precedence => IntervalSet::new(),
-        };
-        Some(label)
+            TransitionKind::Epsilon
+            | TransitionKind::Rule { .. }
+            | TransitionKind::Predicate
+            | TransitionKind::Action
+            | TransitionKind::Precedence => IntervalSet::new(),
+        }
+    }
+
+    // The types that the edge number j takes, None past the last edge.
+    pub fn label(&self, j: usize) -> Option<IntervalSet>
+        ensures { Labels (net_of self.now) j result }
+    {
+        let edge = self.edge(j)?;
+        Some(self.kind_label(edge.kind))
+    }
+
+    // Adds the types that the edges of the state number s take, none past the last.
+    pub fn add_labels(&self, s: usize, set: &mut IntervalSet)
+        ensures { (x : ℤ) → Decides (holds set.new x) ((holds set.old x ≡ true) ⊎ TakesAt (net_of self.now) s x) }
+    {
+        for e in self.edges(s) {
+            set.add_set(&self.kind_label(e.kind));
+        }
     }
 }

@@ -4,6 +4,7 @@ pub mod atn;
 pub mod check;
 pub mod label;
 pub mod lookup;
+pub mod nullable;
 pub mod nulls;
 pub mod reach;
 pub mod recursion;

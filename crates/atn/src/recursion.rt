@@ -1,65 +1,57 @@
 // Left recursion.
-ghost use Rattle.std.specs.Prelude.{◌≡◌, ◌<◌, length, Decides};
-ghost use Rattle.atn_graph.specs.Net.{net, size, edge_at};
-ghost use Rattle.atn.specs.Calls.{is_call, Calls};
+ghost use Rattle.std.specs.Prelude.{◌≡◌, Decides};
+ghost use Rattle.std.specs.List.{list_any};
+ghost use Rattle.atn_graph.specs.Net.{net};
+ghost use Rattle.atn.specs.Calls.{is_call, calls};
 ghost use Rattle.atn.specs.Found.{found};
 ghost use Rattle.atn.specs.Reach.{KnowsNull};
 ghost use Rattle.atn.specs.Walks.{LeftRecursiveFrom, HasLeftRecursion};
 
-use crate::nulls::nullable;
-use crate::reach::{edge, reach, rule, state};
-use crate::visits::Visits;
+use crate::nulls::NullStates;
 use atn_graph::graph::Graph;
-use atn_graph::transition::Move;
+use atn_graph::transition::{Move, Transition};
 
-// Whether the edge number j calls the rule that starts at t.
-fn is_call(g: &Graph, j: usize, t: usize) -> bool
-    requires { j < length (net g.now.lists).edges }
-    ensures { result ≡ is_call t (edge_at (net g.now.lists) j) }
+// Whether the edge calls the rule that starts at t.
+fn is_call(e: &Transition, t: usize) -> bool
+    ensures { result ≡ is_call t e.now }
 {
-    let e = edge(g, j);
     match e.kind.moves() {
-        Move::Along => false,
         Move::Call { follow: _ } => e.target == t,
-        Move::Token => false,
+        Move::Along | Move::Token => false,
     }
 }
 
-fn calls(g: &Graph, s: usize, t: usize) -> bool
-    requires { s < size (net g.now.lists) }
-    ensures { Decides result (Calls (net g.now.lists) s t) }
+fn any_calls(edges: &[Transition], t: usize) -> bool
+    ensures { result ≡ list_any (is_call t) edges.now }
 {
-    let state = state(g, s);
-    for j in state.first..state.end {
-        if is_call(g, j, t) {
-            return true;
-        }
-    }
-    false
+    edges.iter().any(|e| is_call(e, t))
 }
 
-// Whether a walk from the start state s on an empty pile reaches a rule edge to s.
-fn is_recursive(g: &Graph, nulls: &Visits, s: usize) -> bool
-    requires inside { s < size (net g.now.lists) }
-    requires known { KnowsNull (net g.now.lists) (found nulls.now) }
-    ensures { Decides result (LeftRecursiveFrom (net g.now.lists) s) }
+// Whether an edge of one of the states calls the rule that starts at t.
+fn some_call(g: &Graph, states: &[usize], t: usize) -> bool
+    ensures { result ≡ list_any (λ s. calls (net g.now.lists) s t) states.now }
 {
-    let visits = reach(g, nulls, s);
-    for i in 0..visits.len() {
-        if calls(g, visits.at(i), s) {
-            return true;
-        }
+    states.iter().any(|s| any_calls(g.edges(*s), t))
+}
+
+impl NullStates<'_> {
+    // Whether a walk from the start state s on an empty pile reaches a rule edge to s.
+    fn is_recursive(&self, s: usize) -> bool
+        requires { KnowsNull (net self.now.graph.now.lists) (found self.now.states) }
+        ensures { Decides result (LeftRecursiveFrom (net self.now.graph.now.lists) s) }
+    {
+        some_call(self.graph, self.reach(s).states(), s)
     }
-    false
 }
 
 // Whether a rule of the net is left-recursive.
 pub(crate) fn is_left_recursive(g: &Graph) -> bool
     ensures { Decides result (HasLeftRecursion (net g.now.lists)) }
 {
-    let nulls = nullable(g);
-    for r in 0..g.lists.rule_count {
-        if is_recursive(g, &nulls, rule(g, r).start) {
+    let nulls = NullStates::of(g);
+    // kept as a loop: what `is_recursive` asks of the null states is no clause of a closure
+    for rule in g.lists.rules.iter() {
+        if nulls.is_recursive(rule.start) {
             return true;
         }
     }

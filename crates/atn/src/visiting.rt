@@ -1,9 +1,10 @@
 // What is asked of the states found, and how one more is noted.
-ghost use Rattle.std.specs.Prelude.{◌≡◌, ◌<◌, [], length, slice_index};
+ghost use Rattle.std.specs.Prelude.{◌≡◌, ◌<◌, [], length};
 ghost use Rattle.atn.specs.Marks.{elem};
 ghost use Rattle.atn.specs.Found.{found, noted};
 
 use crate::visits::Visits;
+use fixed_vec::fixed_vec::FixedVec;
 
 impl Visits {
     pub(crate) fn new() -> Visits
@@ -11,15 +12,14 @@ impl Visits {
     {
         Visits {
             seen: [false; 512],
-            order: [0; 512],
-            len: 0,
+            order: FixedVec::new(),
         }
     }
 
     pub(crate) fn len(&self) -> usize
         ensures { result ≡ length (found self.now) }
     {
-        self.len
+        self.order.len()
     }
 
     pub fn has(&self, k: usize) -> bool
@@ -28,19 +28,11 @@ impl Visits {
         k < 512 && self.seen[k]
     }
 
-    // The state found at place i.
-    pub(crate) fn at(&self, i: usize) -> usize
-        requires { i < length (found self.now) }
-        ensures { result ≡ slice_index (found self.now) i }
-    {
-        self.order[i]
-    }
-
     // The states found, in their order.
     pub fn states(&self) -> &[usize]
         ensures { result.now ≡ found self.now }
     {
-        &self.order[0..self.len]
+        self.order.as_slice()
     }
 
     // Adds the state k unless it is found already.
@@ -50,8 +42,8 @@ impl Visits {
     {
         if !self.seen[k] {
             self.seen[k] = true;
-            self.order[self.len] = k;
-            self.len += 1;
+            // a state that is not marked leaves room in the list
+            let _ = self.order.push(k);
         }
     }
 }

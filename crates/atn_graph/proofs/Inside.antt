@@ -4,6 +4,7 @@ use lib.Signed.{lt_z}
 use Rattle.std.proofs.lemmas.Int.{ints}
 use Rattle.std.proofs.lemmas.Bool.{and_parts, or_parts, or_right, ltb-true, eqb-true, cases_lt}
 use Rattle.interval_set.specs.Intervals.{from_to}
+use Rattle.atn_graph.specs.declared.atn_state.AtnState.{AtnState}
 use Rattle.atn_graph.specs.declared.graph.Graph.{Graph}
 use Rattle.atn_graph.specs.declared.transition.Move.{Move}
 use Rattle.atn_graph.specs.declared.transition.Move.TheVariants.{Along, Call, Token}
@@ -12,8 +13,8 @@ use Rattle.atn_graph.specs.declared.transition.TransitionKind.TheVariants.{Epsil
 use Rattle.atn_graph.specs.Kinds.{move_of}
 use Rattle.atn_graph.specs.Tables.{outside, counts_outside}
 use Rattle.atn_graph.specs.Net.{Net, net, size, Of, Runs, end_before, rule_at, state_at, edge_at}
-use Rattle.atn_graph.specs.Rules.{Sound, in_rule, eof_only, range_fits, interval_fits, set_fits, kind_fits, counts_of}
-use Rattle.atn_graph.proofs.Sizes.{size_is}
+use Rattle.atn_graph.specs.Rules.{Sound, in_rule, eof_only, range_fits, interval_fits, set_fits, kind_fits, LabelFits, counts_of}
+use Rattle.atn_graph.proofs.Sizes.{few_items}
 use Rattle.atn_graph.proofs.Runs.{ends_rise}
 use Rattle.atn_graph.proofs.Soundness.{sound_of, runs_of}
 
@@ -21,21 +22,21 @@ use Rattle.atn_graph.proofs.Soundness.{sound_of, runs_of}
 in_net : (n : Net) (t r : ℕ) → in_rule n t r ≡ true → t < size n
 in_net n t r h = ltb-true t (size n) (and_parts (ltb t (size n)) (eqb (state_at n t).rule r) h).0
 
-kind_target : (n : Net) → Sound n → (s t : ℕ) (k : TransitionKind) → kind_fits n s t k ≡ true → t < size n
-kind_target n w s t Epsilon h = in_net n t (state_at n s).rule h
-kind_target n w s t (Range i) h = in_net n t (state_at n s).rule (and_parts (in_rule n t (state_at n s).rule) (range_fits n i) h).0
+kind_target : (n : Net) → Sound n → (s : AtnState) (t : ℕ) (k : TransitionKind) → kind_fits n s t k ≡ true → t < size n
+kind_target n w s t Epsilon h = in_net n t s.rule h
+kind_target n w s t (Range i) h = in_net n t s.rule (and_parts (in_rule n t s.rule) (range_fits n i) h).0
 kind_target n w s t (Rule r f) h =
-    let a = (and_parts (eqb (state_at n s).end ((state_at n s).first + 1)) (ltb r (length n.rules) && (eqb t (rule_at n r).start && in_rule n f (state_at n s).rule)) h).1 in
-    let b = and_parts (ltb r (length n.rules)) (eqb t (rule_at n r).start && in_rule n f (state_at n s).rule) a in
-    let e = eqb-true t (rule_at n r).start (and_parts (eqb t (rule_at n r).start) (in_rule n f (state_at n s).rule) b.1).0 in
+    let a = (and_parts (eqb s.end (s.first + 1)) (ltb r (length n.rules) && (eqb t (rule_at n r).start && in_rule n f s.rule)) h).1 in
+    let b = and_parts (ltb r (length n.rules)) (eqb t (rule_at n r).start && in_rule n f s.rule) a in
+    let e = eqb-true t (rule_at n r).start (and_parts (eqb t (rule_at n r).start) (in_rule n f s.rule) b.1).0 in
     subst (λ x. x < size n) (sym e) (in_net n (rule_at n r).start r (w.rules r (ltb-true r (length n.rules) b.0)).start)
-kind_target n w s t Predicate h = in_net n t (state_at n s).rule h
-kind_target n w s t (Atom l) h = in_net n t (state_at n s).rule (and_parts (in_rule n t (state_at n s).rule) (interval_fits n (from_to l l)) h).0
-kind_target n w s t Action h = in_net n t (state_at n s).rule h
-kind_target n w s t (Set f c) h = in_net n t (state_at n s).rule (and_parts (in_rule n t (state_at n s).rule) (set_fits n f c) h).0
-kind_target n w s t (NotSet f c) h = in_net n t (state_at n s).rule (and_parts (in_rule n t (state_at n s).rule) (set_fits n f c) h).0
-kind_target n w s t Wildcard h = in_net n t (state_at n s).rule h
-kind_target n w s t Precedence h = in_net n t (state_at n s).rule h
+kind_target n w s t Predicate h = in_net n t s.rule h
+kind_target n w s t (Atom l) h = in_net n t s.rule (and_parts (in_rule n t s.rule) (interval_fits n (from_to l l)) h).0
+kind_target n w s t Action h = in_net n t s.rule h
+kind_target n w s t (Set f c) h = in_net n t s.rule (and_parts (in_rule n t s.rule) (set_fits n f c) h).0
+kind_target n w s t (NotSet f c) h = in_net n t s.rule (and_parts (in_rule n t s.rule) (set_fits n f c) h).0
+kind_target n w s t Wildcard h = in_net n t s.rule h
+kind_target n w s t Precedence h = in_net n t s.rule h
 
 -- the follow state of a call, if the move is one, is a state of the net
 abbrev GoesOnInside : Net → Move → Type 0
@@ -43,13 +44,13 @@ GoesOnInside n Along = Unit {0}
 GoesOnInside n (Call f) = f < size n
 GoesOnInside n Token = Unit {0}
 
-kind_follow : (n : Net) (s t : ℕ) (k : TransitionKind) → kind_fits n s t k ≡ true → GoesOnInside n (move_of k)
+kind_follow : (n : Net) (s : AtnState) (t : ℕ) (k : TransitionKind) → kind_fits n s t k ≡ true → GoesOnInside n (move_of k)
 kind_follow n s t Epsilon h = tt
 kind_follow n s t (Range i) h = tt
 kind_follow n s t (Rule r f) h =
-    let a = (and_parts (eqb (state_at n s).end ((state_at n s).first + 1)) (ltb r (length n.rules) && (eqb t (rule_at n r).start && in_rule n f (state_at n s).rule)) h).1 in
-    let b = (and_parts (ltb r (length n.rules)) (eqb t (rule_at n r).start && in_rule n f (state_at n s).rule) a).1 in
-    in_net n f (state_at n s).rule (and_parts (eqb t (rule_at n r).start) (in_rule n f (state_at n s).rule) b).1
+    let a = (and_parts (eqb s.end (s.first + 1)) (ltb r (length n.rules) && (eqb t (rule_at n r).start && in_rule n f s.rule)) h).1 in
+    let b = (and_parts (ltb r (length n.rules)) (eqb t (rule_at n r).start && in_rule n f s.rule) a).1 in
+    in_net n f s.rule (and_parts (eqb t (rule_at n r).start) (in_rule n f s.rule) b).1
 kind_follow n s t Predicate h = tt
 kind_follow n s t (Atom l) h = tt
 kind_follow n s t Action h = tt
@@ -67,7 +68,7 @@ some_states g =
     omega (arith, ints, (or_parts (lt_z (pos (size n)) (pos 2)) _ states).0)
 
 pub few_states : (g : Graph) → size (net g.lists) ≤ 512
-few_states g = omega (arith, size_is g.lists, g.lists.few_states)
+few_states g = few_items g.lists.states
 
 pub end_inside : (g : Graph) (s : ℕ) → s < size (net g.lists) → (state_at (net g.lists) s).end ≤ length (net g.lists).edges
 end_inside g s l =
@@ -80,10 +81,10 @@ module _ (g : Graph) (s j : ℕ) (l : s < size (net g.lists)) (of : Of (net g.li
   edge_inside = omega (arith, end_inside g s l, of.1)
 
   pub target_inside : (edge_at (net g.lists) j).target < size (net g.lists)
-  target_inside = let n = net g.lists in kind_target n (sound_of g) s (edge_at n j).target (edge_at n j).kind (((sound_of g).states s l).edges j of)
+  target_inside = let n = net g.lists in kind_target n (sound_of g) (state_at n s) (edge_at n j).target (edge_at n j).kind (((sound_of g).states s l).edges j of)
 
   pub follow_inside : (f : ℕ) → move_of (edge_at (net g.lists) j).kind ≡ Call f → f < size (net g.lists)
-  follow_inside f e = let n = net g.lists in subst (GoesOnInside n) e (kind_follow n s (edge_at n j).target (edge_at n j).kind (((sound_of g).states s l).edges j of))
+  follow_inside f e = let n = net g.lists in subst (GoesOnInside n) e (kind_follow n (state_at n s) (edge_at n j).target (edge_at n j).kind (((sound_of g).states s l).edges j of))
 
 pub start_inside : (g : Graph) (r : ℕ) → r < length (net g.lists).rules → (rule_at (net g.lists) r).start < size (net g.lists)
 start_inside g r l = in_net (net g.lists) _ r ((sound_of g).rules r l).start
@@ -107,28 +108,15 @@ owner g j l =
     let e : suc (size n - 1) ≡ size n = omega (arith, some_states g) in
     owner_before n (runs_of g) j (size n) (omega arith) (subst (λ k. j < end_before n.states k) e (omega (arith, (sound_of g).used_up)))
 
--- the label of an edge fits the net
-abbrev pub LabelFits : Net → TransitionKind → Type 0
-LabelFits n Epsilon = Unit {0}
-LabelFits n (Range i) = interval_fits n i ≡ true
-LabelFits n (Rule r f) = Unit {0}
-LabelFits n Predicate = Unit {0}
-LabelFits n (Atom l) = interval_fits n (from_to l l) ≡ true
-LabelFits n Action = Unit {0}
-LabelFits n (Set f c) = set_fits n f c ≡ true
-LabelFits n (NotSet f c) = set_fits n f c ≡ true
-LabelFits n Wildcard = Unit {0}
-LabelFits n Precedence = Unit {0}
-
-kind_label : (n : Net) (s t : ℕ) (k : TransitionKind) → kind_fits n s t k ≡ true → LabelFits n k
+kind_label : (n : Net) (s : AtnState) (t : ℕ) (k : TransitionKind) → kind_fits n s t k ≡ true → LabelFits n k
 kind_label n s t Epsilon h = tt
-kind_label n s t (Range i) h = or_right (eof_only i) _ (and_parts (in_rule n t (state_at n s).rule) (range_fits n i) h).1
+kind_label n s t (Range i) h = or_right (eof_only i) _ (and_parts (in_rule n t s.rule) (range_fits n i) h).1
 kind_label n s t (Rule r f) h = tt
 kind_label n s t Predicate h = tt
-kind_label n s t (Atom l) h = (and_parts (in_rule n t (state_at n s).rule) (interval_fits n (from_to l l)) h).1
+kind_label n s t (Atom l) h = (and_parts (in_rule n t s.rule) (interval_fits n (from_to l l)) h).1
 kind_label n s t Action h = tt
-kind_label n s t (Set f c) h = (and_parts (in_rule n t (state_at n s).rule) (set_fits n f c) h).1
-kind_label n s t (NotSet f c) h = (and_parts (in_rule n t (state_at n s).rule) (set_fits n f c) h).1
+kind_label n s t (Set f c) h = (and_parts (in_rule n t s.rule) (set_fits n f c) h).1
+kind_label n s t (NotSet f c) h = (and_parts (in_rule n t s.rule) (set_fits n f c) h).1
 kind_label n s t Wildcard h = tt
 kind_label n s t Precedence h = tt
 
@@ -136,4 +124,4 @@ pub label_fits : (g : Graph) (j : ℕ) → j < length (net g.lists).edges → La
 label_fits g j l =
     let n = net g.lists in
     let o = owner g j l in
-    kind_label n o.0 (edge_at n j).target (edge_at n j).kind (((sound_of g).states o.0 o.1).edges j o.2)
+    kind_label n (state_at n o.0) (edge_at n j).target (edge_at n j).kind (((sound_of g).states o.0 o.1).edges j o.2)

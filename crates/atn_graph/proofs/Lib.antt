@@ -4,6 +4,8 @@ pub mod ReadTables
 pub mod Sizes
 pub mod Sets
 pub mod Runs
+pub mod Edges
 pub mod Soundness
 pub mod Verdict
 pub mod Inside
+pub mod StateEdges

@@ -1,47 +1,94 @@
 -- The net in tables that were read row by row.
-use Rattle.std.proofs.Common.{◌≡◌, ℕ, zero, suc, ◌<◌, ◌≤◌, List, length, get_or, take, ℤ, pos, sym, refl, ap, ◌∙◌, subst, arith}
-use Rattle.std.proofs.lemmas.List.{length-take-le, get_or-take}
-use Rattle.std.proofs.lemmas.Int.{ints}
+use Rattle.std.proofs.Common.{◌≡◌, ℕ, ◌<◌, List, length, get_or, take, ℤ, pos, false, sym, ap, ◌∙◌, subst, arith, w32, SFits, to_z, of_z}
+use Rattle.std.specs.List.{Any, AllZip}
+use lib.Signed.{lt_z}
+use Rattle.std.proofs.lemmas.Bool.{or_parts}
+use Rattle.std.proofs.lemmas.Int.{ints, to_z-of_z}
+use Rattle.std.proofs.lemmas.List.{get_or-take, get_or_default}
+use Rattle.std.proofs.lemmas.Slice.Zip.{AllZip-long}
 use Rattle.interval_set.specs.declared.interval.Interval.{Interval}
+use Rattle.atn_graph.specs.declared.tables.RuleRow.{RuleRow}
+use Rattle.atn_graph.specs.declared.tables.StateRow.{StateRow}
+use Rattle.atn_graph.specs.declared.tables.EdgeRow.{EdgeRow}
 use Rattle.atn_graph.specs.declared.atn_state.AtnState.{AtnState}
-use Rattle.atn_graph.specs.declared.lists.Rule.{Rule}
-use Rattle.atn_graph.specs.declared.transition.Transition.{Transition}
-use Rattle.atn_graph.specs.Tables.{Rows}
-use Rattle.atn_graph.specs.Net.{no_rule, no_state, no_edge, end_before}
+use Rattle.atn_graph.specs.Tables.{Rows, shorter, short_table, outside, counts_outside, outside_limits}
+use Rattle.atn_graph.specs.Net.{Net, no_rule, no_state, no_edge, end_before}
 use Rattle.atn_graph.specs.Written.{Writes, rule_row, no_rule_row, WritesState, no_state_row, WritesEdge, no_edge_row}
-use Rattle.atn_graph.specs.Reading.{RulesRead, StatesRead, EdgesRead}
+use Rattle.atn_graph.specs.Reading.{Counts, Cut, StatesRead}
+use Rattle.atn_graph.proofs.Rows.{at_place}
 
 pub same_count : (a b : ℕ) (z : ℤ) → pos a ≡ z → pos b ≡ z → a ≡ b
 same_count a b z p q = omega (arith, ints, p, q)
 
-end_before_take : (n : ℕ) (ss : List AtnState) (s : ℕ) → s ≤ n → end_before (take n ss) s ≡ end_before ss s
-end_before_take n ss zero l = refl
-end_before_take n ss (suc s) l = ap (λ x. x.end) (get_or-take n ss s no_state (omega arith))
+-- a count as the code holds it
+pub cut_of : {R : Type 0} (count : ℤ) (table rows : List R) → SFits w32 count → Cut (to_z w32 (of_z w32 count)) table rows → Cut count table rows
+cut_of count table rows f = subst (λ z. Cut z table rows) (to_z-of_z w32 count f)
 
-pub writes_lists : (t : Rows) (m : ℤ) (rules : List Rule) (rc : ℕ) (states : List AtnState) (sc : ℕ) (edges : List Transition) (ec : ℕ) (intervals : List Interval) (ic : ℕ)
-    → m ≡ t.max
-    → rc ≤ length rules → pos rc ≡ t.counts.rules → RulesRead t.rules rc rules
-    → sc ≤ length states → pos sc ≡ t.counts.states → StatesRead t.states sc states
-    → ec ≤ length edges → pos ec ≡ t.counts.edges → EdgesRead t.edges ec edges
-    → ic ≤ length intervals → pos ic ≡ t.counts.intervals → take ic intervals ≡ take ic t.intervals
-    → Writes t (record { max = m; rules = take rc rules; states = take sc states; edges = take ec edges; intervals = take ic intervals })
-writes_lists t m rules rc states sc edges ec intervals ic me lr re rs ls se ss le ee es li ie is =
-    let nr = length-take-le rc rules lr in
-    let ns = length-take-le sc states ls in
-    let ne = length-take-le ec edges le in
-    let ni = length-take-le ic intervals li in
+-- a row that counts stands in the table
+row_cut : {R : Type 0} (count : ℤ) (table rows : List R) → Cut count table rows → (k : ℕ) (r : R) → k < length rows → get_or rows k r ≡ get_or table k r
+row_cut count table rows cut k r l = ap (λ xs. get_or xs k r) cut.1 ∙ get_or-take (length rows) table k r l
+
+module _ {R X : Type 0} (P : R → X → Type 0) (count : ℤ) (table rows : List R) (cut : Cut count table rows) (xs : List X) (r : R) (x : X) where
+  pub each_written : AllZip P rows xs → (k : ℕ) → k < length xs → P (get_or table k r) (get_or xs k x)
+  each_written z k l =
+      let m = AllZip-long P rows xs z in
+      subst (λ y. P y (get_or xs k x)) (row_cut count table rows cut k r (omega (arith, m))) (at_place P rows xs z k r x l)
+
+  -- a row that cannot be read is not written
+  pub none_written : Any (λ y. (z : X) → P y z → ⊥) rows → pos (length xs) ≡ count → ((k : ℕ) → k < length xs → P (get_or table k r) (get_or xs k x)) → ⊥
+  none_written broken m each =
+      let k = broken.0 in
+      let same = same_count (length xs) (length rows) count m cut.0 in
+      let here = get_or_default rows k r broken.1 broken.2 ∙ broken.3 in
+      broken.4 (get_or xs k x) (subst (λ y. P y (get_or xs k x)) (sym (row_cut count table rows cut k r broken.2) ∙ here) (each k (omega (arith, same, broken.2))))
+
+pub states_cut : (count : ℤ) (table rows : List StateRow) → Cut count table rows → (ss : List AtnState) → length ss ≡ length rows
+    → ((s : ℕ) → s < length ss → WritesState (get_or table s no_state_row) (end_before ss s) (get_or ss s no_state)) → StatesRead rows (length rows) ss
+states_cut count table rows cut ss m each s l =
+    subst (λ y. WritesState y (end_before ss s) (get_or ss s no_state)) (sym (row_cut count table rows cut s no_state_row l)) (each s (omega (arith, m)))
+
+pub writes_lists : (t : Rows) (n : Net) (rules : List RuleRow) (states : List StateRow) (edges : List EdgeRow) (intervals : List Interval) → n.max ≡ t.max
+    → Cut t.counts.rules t.rules rules → AllZip (λ row r. rule_row r ≡ row) rules n.rules
+    → Cut t.counts.states t.states states → length n.states ≡ length states → StatesRead states (length states) n.states
+    → Cut t.counts.edges t.edges edges → AllZip WritesEdge edges n.edges
+    → Cut t.counts.intervals t.intervals intervals → n.intervals ≡ intervals → Writes t n
+writes_lists t n rules states edges intervals m cr zr cs ls zs ce ze ci zi = record {
+  max = m;
+  rule_count = ap pos (AllZip-long (λ row r. rule_row r ≡ row) rules n.rules zr) ∙ cr.0;
+  rules = each_written (λ row r. rule_row r ≡ row) t.counts.rules t.rules rules cr n.rules no_rule_row no_rule zr;
+  state_count = ap pos ls ∙ cs.0;
+  states = λ s h. let b : s < length states = omega (arith, ls) in
+      subst (λ y. WritesState y (end_before n.states s) (get_or n.states s no_state)) (row_cut t.counts.states t.states states cs s no_state_row b) (zs s b);
+  edge_count = ap pos (AllZip-long WritesEdge edges n.edges ze) ∙ ce.0;
+  edges = each_written WritesEdge t.counts.edges t.edges edges ce n.edges no_edge_row no_edge ze;
+  interval_count = ap (λ is. pos (length is)) zi ∙ ci.0;
+  intervals = zi ∙ ci.1 ∙ ap (λ k. take k t.intervals) (sym (ap length zi));
+}
+
+-- tables that are long enough have as many rows as their counts say
+pub record CountsThere (t : Rows) : Type 0 where
+  pub rules : Counts t.counts.rules t.rules
+  pub states : Counts t.counts.states t.states
+  pub edges : Counts t.counts.edges t.edges
+  pub intervals : Counts t.counts.intervals t.intervals
+
+pub counts_there : (t : Rows) → short_table t ≡ false → outside_limits t ≡ false → CountsThere t
+counts_there t long limits =
+    let a = or_parts (shorter (length t.rules) t.counts.rules) _ long in
+    let b = or_parts (shorter (length t.states) t.counts.states) _ a.1 in
+    let d = or_parts (shorter (length t.edges) t.counts.edges) _ b.1 in
+    let few = (or_parts (counts_outside t.counts) (outside 1 255 t.max) limits).0 in
+    let p = or_parts (outside 1 64 t.counts.rules) _ few in
+    let q = or_parts (outside 2 512 t.counts.states) _ p.1 in
+    let r = or_parts (outside 0 2048 t.counts.edges) _ q.1 in
     record {
-      max = me;
-      rule_count = ap pos nr ∙ re;
-      rules = λ r h. let b : r < rc = omega arith in
-          subst (λ x. rule_row x ≡ get_or t.rules r no_rule_row) (sym (get_or-take rc rules r no_rule b)) (rs r b);
-      state_count = ap pos ns ∙ se;
-      states = λ s h. let b : s < sc = omega arith in
-          subst (λ x. WritesState (get_or t.states s no_state_row) (end_before (take sc states) s) x) (sym (get_or-take sc states s no_state b))
-          (subst (λ x. WritesState (get_or t.states s no_state_row) x (get_or states s no_state)) (sym (end_before_take sc states s (omega arith))) (ss s b));
-      edge_count = ap pos ne ∙ ee;
-      edges = λ j h. let b : j < ec = omega arith in
-          subst (λ x. WritesEdge (get_or t.edges j no_edge_row) x) (sym (get_or-take ec edges j no_edge b)) (es j b);
-      interval_count = ap pos ni ∙ ie;
-      intervals = is ∙ ap (λ k. take k t.intervals) (sym ni);
+      rules = there 1 64 t.counts.rules t.rules a.0 p.0;
+      states = there 2 512 t.counts.states t.states b.0 q.0;
+      edges = there 0 2048 t.counts.edges t.edges d.0 r.0;
+      intervals = there 0 1024 t.counts.intervals t.intervals d.1 r.1;
     }
+  where
+    there : {R : Type 0} (low high : ℕ) (count : ℤ) (table : List R) → shorter (length table) count ≡ false → outside low high count ≡ false → Counts count table
+    there low high count table s o =
+        let below = (or_parts (lt_z count (pos low)) _ o).0 in
+        (omega (arith, ints, below), omega (arith, ints, s))

@@ -1,31 +1,43 @@
--- One row more of a table that is filled from its first place on.
-use Rattle.std.proofs.Common.{◌≡◌, ℕ, zero, suc, ◌+◌, ◌<◌, ◌≤◌, ◌≢◌, List, length, get_or, set, sym, refl, ap, subst, add-one, arith, below_more}
-use Rattle.std.proofs.lemmas.List.{get_or-set_same, get_or-set_other}
+-- One row more of a table that is read from its first row on.
+use Rattle.std.proofs.Common.{◌≡◌, ℕ, zero, suc, ◌+◌, ◌<◌, ◌≤◌, List, [], ◌∷◌, ◌++◌, length, get_or, take, sym, refl, ap, ◌∙◌, subst, add-one, arith, below_more}
+use Rattle.std.specs.List.{AllZip}
+use Rattle.std.proofs.lemmas.List.{take_more, get_or_append_left, get_or_push}
+use Rattle.std.proofs.lemmas.Slice.Zip.{all_zipped_more}
 use Rattle.atn_graph.specs.declared.tables.StateRow.{StateRow}
 use Rattle.atn_graph.specs.declared.atn_state.AtnState.{AtnState}
 use Rattle.atn_graph.specs.Net.{no_state, end_before}
 use Rattle.atn_graph.specs.Written.{WritesState, no_state_row}
 use Rattle.atn_graph.specs.Reading.{StatesRead}
 
--- what holds of each element before i, and of the new one, holds of each up to i once the new one stands there
-pub row_more : {X : Type 0} (P : ℕ → X → Type 0) (xs : List X) (i : ℕ) (x d : X) → i < length xs
-    → ((k : ℕ) → k < i → P k (get_or xs k d)) → P i x → (k : ℕ) → k < i + 1 → P k (get_or (set xs i x) k d)
-row_more P xs i x d l before here = below_more (λ k. P k (get_or (set xs i x) k d)) i earlier (subst (P i) (sym (get_or-set_same xs i x d l)) here)
+pub zip_more : {R X : Type 0} (P : R → X → Type 0) (rows : List R) (xs ys : List X) (i : ℕ) (r : R) (x : X) → i < length rows → r ≡ get_or rows i r → ys ≡ xs ++ x ∷ []
+    → AllZip P (take i rows) xs → P r x → AllZip P (take (i + 1) rows) ys
+zip_more P rows xs ys i r x l e m z p =
+    subst (AllZip P (take (i + 1) rows)) (sym m)
+    (subst (λ rs. AllZip P rs (xs ++ x ∷ [])) (sym (take_more rows i r l ∙ ap (λ y. take i rows ++ y ∷ []) (sym e))) (all_zipped_more P (take i rows) xs r x z p))
+
+-- what holds of two lists place by place holds at each place
+pub at_place : {R X : Type 0} (P : R → X → Type 0) (rows : List R) (xs : List X) → AllZip P rows xs → (k : ℕ) (r : R) (x : X) → k < length xs → P (get_or rows k r) (get_or xs k x)
+at_place P [] [] z k r x l = absurd (none k l)
   where
-    earlier : (k : ℕ) → k < i → P k (get_or (set xs i x) k d)
-    earlier k h = let ne : k ≢ i = omega arith in subst (P k) (sym (get_or-set_other xs i k x d ne)) (before k h)
+    none : (k : ℕ) → k < 0 → ⊥
+    none k l = omega arith
+at_place P [] (y ∷ ys) z k r x l = absurd z
+at_place P (q ∷ qs) [] z k r x l = absurd z
+at_place P (q ∷ qs) (y ∷ ys) z zero r x l = z.0
+at_place P (q ∷ qs) (y ∷ ys) z (suc k) r x l = at_place P qs ys z.1 k r x (omega arith)
 
--- the new state does not change where earlier runs end
-end_before_set : (ss : List AtnState) (i s : ℕ) (x : AtnState) → s ≤ i → end_before (set ss i x) s ≡ end_before ss s
-end_before_set ss i zero x l = refl
-end_before_set ss i (suc s) x l = let ne : s ≢ i = omega arith in ap (λ y. y.end) (get_or-set_other ss i s x no_state ne)
+-- one state more does not change where earlier runs end
+end_before_push : (ss : List AtnState) (x : AtnState) (s : ℕ) → s ≤ length ss → end_before (ss ++ x ∷ []) s ≡ end_before ss s
+end_before_push ss x zero l = refl
+end_before_push ss x (suc s) l = ap (λ y. y.end) (get_or_append_left ss (x ∷ []) no_state s (omega arith))
 
-pub end_at_last : (ss : List AtnState) (i : ℕ) (x : AtnState) → i < length ss → x.end ≡ end_before (set ss i x) (i + 1)
-end_at_last ss i x l = subst (λ j. x.end ≡ end_before (set ss i x) j) (sym (add-one i)) (ap (λ y. y.end) (sym (get_or-set_same ss i x no_state l)))
+pub end_at_last : (ss : List AtnState) (i : ℕ) (x : AtnState) → length ss ≡ i → x.end ≡ end_before (ss ++ x ∷ []) (i + 1)
+end_at_last ss i x e = subst (λ j. x.end ≡ end_before (ss ++ x ∷ []) j) (sym (add-one i)) (ap (λ y. y.end) (sym (get_or_push ss x no_state i e)))
 
-pub state_more : (rows : List StateRow) (ss : List AtnState) (i : ℕ) (x : AtnState) → i < length ss → StatesRead rows i ss
-    → WritesState (get_or rows i no_state_row) (end_before ss i) x → StatesRead rows (i + 1) (set ss i x)
-state_more rows ss i x l before here k h =
-    let same : k ≤ i = omega arith in
-    subst (λ b. WritesState (get_or rows k no_state_row) b (get_or (set ss i x) k no_state)) (sym (end_before_set ss i k x same))
-    (row_more (λ j y. WritesState (get_or rows j no_state_row) (end_before ss j) y) ss i x no_state l before here k h)
+pub state_more : (rows : List StateRow) (ss : List AtnState) (i : ℕ) (x : AtnState) → length ss ≡ i → StatesRead rows i ss
+    → WritesState (get_or rows i no_state_row) (end_before ss i) x → StatesRead rows (i + 1) (ss ++ x ∷ [])
+state_more rows ss i x e before here k h =
+    subst (λ b. WritesState (get_or rows k no_state_row) b (get_or (ss ++ x ∷ []) k no_state)) (sym (end_before_push ss x k (omega arith)))
+    (below_more (λ j. WritesState (get_or rows j no_state_row) (end_before ss j) (get_or (ss ++ x ∷ []) j no_state)) i
+    (λ j l. subst (WritesState (get_or rows j no_state_row) (end_before ss j)) (sym (get_or_append_left ss (x ∷ []) no_state j (omega arith))) (before j l))
+    (subst (WritesState (get_or rows i no_state_row) (end_before ss i)) (sym (get_or_push ss x no_state i e)) here) k h)

@@ -1,17 +1,22 @@
 -- How long the net's lists are.
-use Rattle.std.proofs.Common.{◌≡◌, length, arith}
+use Rattle.std.proofs.Common.{ℕ, ◌≤◌, length, arith}
 use Rattle.std.proofs.lemmas.List.{length-take-le}
+use Rattle.fixed_vec.specs.declared.fixed_vec.FixedVec.{FixedVec}
+use Rattle.fixed_vec.specs.Items.{items}
 use Rattle.atn_graph.specs.declared.lists.Lists.{Lists}
 use Rattle.atn_graph.specs.Net.{net, size}
 
-pub rules_length : (l : Lists) → length (net l).rules ≡ l.rule_count
-rules_length l = length-take-le l.rule_count l.rules (omega (arith, l.few_rules))
+pub few_items : {T : Type 0} {N : ℕ} (v : FixedVec T N) → length (items v) ≤ N
+few_items v = omega (arith, length-take-le v.len v.places (omega (arith, v.whole, v.few)), v.few)
 
-pub size_is : (l : Lists) → size (net l) ≡ l.state_count
-size_is l = length-take-le l.state_count l.states (omega (arith, l.few_states))
+pub few_rules : (l : Lists) → length (net l).rules ≤ 64
+few_rules l = few_items l.rules
 
-pub edges_length : (l : Lists) → length (net l).edges ≡ l.edge_count
-edges_length l = length-take-le l.edge_count l.edges (omega (arith, l.few_edges))
+pub few_states : (l : Lists) → size (net l) ≤ 512
+few_states l = few_items l.states
 
-pub intervals_length : (l : Lists) → length (net l).intervals ≡ l.interval_count
-intervals_length l = length-take-le l.interval_count l.intervals (omega (arith, l.few_intervals))
+pub few_edges : (l : Lists) → length (net l).edges ≤ 2048
+few_edges l = few_items l.edges
+
+pub few_intervals : (l : Lists) → length (net l).intervals ≤ 1024
+few_intervals l = few_items l.intervals

@@ -1,5 +1,7 @@
 -- The numbers of the kinds of states and edges, and what a walk does at an edge.
-use Rattle.std.specs.Prelude.{ℕ, Bool, ◌==◌}
+use Rattle.std.specs.Prelude.{◌≡◌, ◌≢◌, ℕ, Bool, ◌==◌, ℤ, pos, Result, MatchResult}
+use Rattle.errors.specs.declared.denial.Denial.{Denial}
+use Rattle.errors.specs.declared.denial.Denial.TheVariants.{BrokenRule}
 use Rattle.atn_graph.specs.declared.atn_state.StateKind.{StateKind}
 use Rattle.atn_graph.specs.declared.atn_state.StateKind.TheVariants.{Basic, RuleStart, BlockStart, PlusBlockStart, StarBlockStart, RuleStop, BlockEnd, StarLoopBack, StarLoopEntry, PlusLoopBack, LoopEnd}
 use Rattle.atn_graph.specs.declared.transition.TransitionKind.{TransitionKind}
@@ -19,6 +21,10 @@ state_number StarLoopBack = 9
 state_number StarLoopEntry = 10
 state_number PlusLoopBack = 11
 state_number LoopEnd = 12
+
+-- r is the kind with the number n, or the denial where no kind has it
+abbrev pub Numbered : ℤ → Result StateKind Denial → Type 0
+Numbered n r = MatchResult r (λ k. pos (state_number k) ≡ n) (λ d. (d ≡ BrokenRule) × ((k : StateKind) → pos (state_number k) ≢ n))
 
 -- a rule's start or stop state
 abbrev pub is_start : StateKind → Bool

@@ -1,5 +1,6 @@
 -- A net as plain lists: its rules, states, edges and intervals, each numbered from 0.
-use Rattle.std.specs.Prelude.{◌≡◌, ℕ, zero, suc, ◌<◌, ◌≤◌, List, length, get_or, take, ℤ, slice_index_or}
+use Rattle.std.specs.Prelude.{◌≡◌, ℕ, zero, suc, ◌<◌, ◌≤◌, List, length, get_or, ℤ, slice_index_or, slice_range}
+use Rattle.fixed_vec.specs.Items.{items}
 use Rattle.interval_set.specs.declared.interval.Interval.{Interval}
 use Rattle.atn_graph.specs.declared.atn_state.StateKind.TheVariants.{Basic}
 use Rattle.atn_graph.specs.declared.atn_state.AtnState.{AtnState}
@@ -41,6 +42,10 @@ size n = length n.states
 abbrev pub Of : Net → ℕ → ℕ → Type 0
 Of n s j = ((state_at n s).first ≤ j) × (j < (state_at n s).end)
 
+-- the edges of state s, none past the last state
+abbrev pub edges_of : Net → ℕ → List Transition
+edges_of n s = slice_range n.edges (state_at n s).first (state_at n s).end
+
 -- where the edges of the states before number s end
 abbrev pub end_before : List AtnState → ℕ → ℕ
 end_before ss zero = 0
@@ -52,10 +57,4 @@ Runs n = (s : ℕ) → s < size n → ((state_at n s).first ≡ end_before n.sta
 
 -- the net in its tables
 abbrev pub net : Lists → Net
-net l = record {
-  max = l.max_token_type;
-  rules = take l.rule_count l.rules;
-  states = take l.state_count l.states;
-  edges = take l.edge_count l.edges;
-  intervals = take l.interval_count l.intervals;
-}
+net l = record { max = l.max_token_type; rules = items l.rules; states = items l.states; edges = items l.edges; intervals = items l.intervals }

@@ -1,24 +1,24 @@
--- What it means that the rows up to a count have been read.
-use Rattle.std.specs.Prelude.{◌≡◌, ℕ, ◌<◌, List, pos, slice_index_or}
-use Rattle.atn_graph.specs.declared.tables.RuleRow.{RuleRow}
+-- What it means that the rows of a table have been read.
+use Rattle.std.specs.Prelude.{◌≡◌, ℕ, ◌<◌, List, length, take, ℤ, pos, ◌≤ℤ◌, slice_index_or}
 use Rattle.atn_graph.specs.declared.tables.StateRow.{StateRow}
 use Rattle.atn_graph.specs.declared.tables.EdgeRow.{EdgeRow}
 use Rattle.atn_graph.specs.declared.atn_state.AtnState.{AtnState}
-use Rattle.atn_graph.specs.declared.lists.Rule.{Rule}
-use Rattle.atn_graph.specs.declared.transition.Transition.{Transition}
 use Rattle.atn_graph.specs.declared.transition.TransitionKind.{TransitionKind}
 use Rattle.atn_graph.specs.Kinds.{transition_number}
-use Rattle.atn_graph.specs.Net.{no_rule, no_state, no_edge, end_before}
-use Rattle.atn_graph.specs.Written.{rule_row, no_rule_row, Columns, WritesState, no_state_row, WritesEdge, no_edge_row}
+use Rattle.atn_graph.specs.Net.{no_state, end_before}
+use Rattle.atn_graph.specs.Written.{Columns, WritesState, no_state_row}
 
-abbrev pub RulesRead : List RuleRow → ℕ → List Rule → Type 0
-RulesRead rows count rs = (r : ℕ) → r < count → rule_row (slice_index_or rs r no_rule) ≡ slice_index_or rows r no_rule_row
+-- the count is that of rows which the table has
+abbrev pub Counts : {R : Type 0} → ℤ → List R → Type 0
+Counts count table = (pos 0 ≤ℤ count) × (count ≤ℤ pos (length table))
+
+-- its first count rows
+abbrev pub Cut : {R : Type 0} → ℤ → List R → List R → Type 0
+Cut count table rows = (pos (length rows) ≡ count) × (rows ≡ take (length rows) table)
 
 abbrev pub KindRead : EdgeRow → TransitionKind → Type 0
 KindRead row k = (row.kind ≡ pos (transition_number k)) × Columns row k
 
-abbrev pub EdgesRead : List EdgeRow → ℕ → List Transition → Type 0
-EdgesRead rows count es = (j : ℕ) → j < count → WritesEdge (slice_index_or rows j no_edge_row) (slice_index_or es j no_edge)
-
+-- the states of the first count rows, each of whose edges follow those of the one before
 abbrev pub StatesRead : List StateRow → ℕ → List AtnState → Type 0
 StatesRead rows count ss = (s : ℕ) → s < count → WritesState (slice_index_or rows s no_state_row) (end_before ss s) (slice_index_or ss s no_state)

@@ -1,7 +1,9 @@
 -- The rules of a net.
-use Rattle.std.specs.Prelude.{◌≡◌, ℕ, ◌+◌, ◌-◌, ◌<◌, Bool, true, ◌&&◌, ◌||◌, List, [], ◌∷◌, length, take, drop, pos, negsuc, ◌==◌, int_le, nat_le, nat_lt}
+use Rattle.std.specs.Prelude.{◌≡◌, ℕ, ◌+◌, ◌-◌, ◌<◌, Bool, true, ◌&&◌, ◌||◌, List, length, take, drop, pos, negsuc, ◌==◌, int_le, nat_le, nat_lt}
+use Rattle.std.specs.List.{list_all}
 use Rattle.interval_set.specs.declared.interval.Interval.{Interval}
 use Rattle.interval_set.specs.Intervals.{inside, from_to}
+use Rattle.atn_graph.specs.declared.atn_state.AtnState.{AtnState}
 use Rattle.atn_graph.specs.declared.transition.Transition.{Transition}
 use Rattle.atn_graph.specs.declared.transition.TransitionKind.{TransitionKind}
 use Rattle.atn_graph.specs.declared.transition.TransitionKind.TheVariants.{Epsilon, Range, Rule, Predicate, Atom, Action, Set, NotSet, Wildcard, Precedence}
@@ -26,8 +28,7 @@ abbrev pub interval_fits : Net → Interval → Bool
 interval_fits n i = eof_only i || range_fits n i
 
 abbrev pub all_fit : Net → List Interval → Bool
-all_fit n [] = true
-all_fit n (i ∷ is) = interval_fits n i && all_fit n is
+all_fit n = list_all (interval_fits n)
 
 -- the count intervals from number first on
 abbrev pub part : Net → ℕ → ℕ → List Interval
@@ -37,22 +38,35 @@ part n first count = take count (drop first n.intervals)
 abbrev pub set_fits : Net → ℕ → ℕ → Bool
 set_fits n first count = nat_le 1 count && (nat_le (first + count) (length n.intervals) && all_fit n (part n first count))
 
--- An edge of state s that leads to t. A rule edge is its state's only edge, leads to the named rule's start, and goes on
--- in its own rule; any other edge leads to a state of its own rule.
-abbrev pub kind_fits : Net → ℕ → ℕ → TransitionKind → Bool
-kind_fits n s t Epsilon = in_rule n t (state_at n s).rule
-kind_fits n s t (Range i) = in_rule n t (state_at n s).rule && range_fits n i
-kind_fits n s t (Rule r f) = (state_at n s).end == (state_at n s).first + 1 && (nat_lt r (length n.rules) && (t == (rule_at n r).start && in_rule n f (state_at n s).rule))
-kind_fits n s t Predicate = in_rule n t (state_at n s).rule
-kind_fits n s t (Atom l) = in_rule n t (state_at n s).rule && interval_fits n (from_to l l)
-kind_fits n s t Action = in_rule n t (state_at n s).rule
-kind_fits n s t (Set f c) = in_rule n t (state_at n s).rule && set_fits n f c
-kind_fits n s t (NotSet f c) = in_rule n t (state_at n s).rule && set_fits n f c
-kind_fits n s t Wildcard = in_rule n t (state_at n s).rule
-kind_fits n s t Precedence = in_rule n t (state_at n s).rule
+-- An edge of the state s that leads to state number t. A rule edge is its state's only edge, leads to the named rule's start,
+-- and goes on in its own rule; any other edge leads to a state of its own rule.
+abbrev pub kind_fits : Net → AtnState → ℕ → TransitionKind → Bool
+kind_fits n s t Epsilon = in_rule n t s.rule
+kind_fits n s t (Range i) = in_rule n t s.rule && range_fits n i
+kind_fits n s t (Rule r f) = s.end == s.first + 1 && (nat_lt r (length n.rules) && (t == (rule_at n r).start && in_rule n f s.rule))
+kind_fits n s t Predicate = in_rule n t s.rule
+kind_fits n s t (Atom l) = in_rule n t s.rule && interval_fits n (from_to l l)
+kind_fits n s t Action = in_rule n t s.rule
+kind_fits n s t (Set f c) = in_rule n t s.rule && set_fits n f c
+kind_fits n s t (NotSet f c) = in_rule n t s.rule && set_fits n f c
+kind_fits n s t Wildcard = in_rule n t s.rule
+kind_fits n s t Precedence = in_rule n t s.rule
 
 abbrev pub edge_fits : Net → ℕ → Transition → Bool
-edge_fits n s e = kind_fits n s e.target e.kind
+edge_fits n s e = kind_fits n (state_at n s) e.target e.kind
+
+-- the label of an edge fits the net
+abbrev pub LabelFits : Net → TransitionKind → Type 0
+LabelFits n Epsilon = Unit {0}
+LabelFits n (Range i) = interval_fits n i ≡ true
+LabelFits n (Rule r f) = Unit {0}
+LabelFits n Predicate = Unit {0}
+LabelFits n (Atom l) = interval_fits n (from_to l l) ≡ true
+LabelFits n Action = Unit {0}
+LabelFits n (Set f c) = set_fits n f c ≡ true
+LabelFits n (NotSet f c) = set_fits n f c ≡ true
+LabelFits n Wildcard = Unit {0}
+LabelFits n Precedence = Unit {0}
 
 -- A rule's start and stop state lie in the rule.
 pub record RuleFits (n : Net) (r : ℕ) : Type 0 where

@@ -1,59 +1,30 @@
 // The kinds of states, by the names and numbers of ANTLR's serialized networks.
-ghost use Rattle.std.specs.Prelude.{◌≡◌, pos, MatchOption, ◌≢◌};
-ghost use Rattle.atn_graph.specs.Kinds.{state_number, is_start, is_stop};
+ghost use Rattle.std.specs.Prelude.{◌≡◌, pos};
+ghost use Rattle.atn_graph.specs.Kinds.{state_number, Numbered, is_start, is_stop};
 
-#[derive(Clone, Copy, PartialEq, Eq, Debug)]
+use errors::denial::Denial;
+
+#[derive(Clone, Copy, PartialEq, Eq, Default, Debug)]
 pub enum StateKind {
-    Basic,
-    RuleStart,
-    BlockStart,
-    PlusBlockStart,
-    StarBlockStart,
-    RuleStop,
-    BlockEnd,
-    StarLoopBack,
-    StarLoopEntry,
-    PlusLoopBack,
-    LoopEnd,
+    #[default]
+    Basic = 1,
+    RuleStart = 2,
+    BlockStart = 3,
+    PlusBlockStart = 4,
+    StarBlockStart = 5,
+    RuleStop = 7,
+    BlockEnd = 8,
+    StarLoopBack = 9,
+    StarLoopEntry = 10,
+    PlusLoopBack = 11,
+    LoopEnd = 12,
 }
 
 impl StateKind {
     pub fn number(self) -> i32
         ensures { result ≡ pos (state_number self) }
     {
-        match self {
-            StateKind::Basic => 1,
-            StateKind::RuleStart => 2,
-            StateKind::BlockStart => 3,
-            StateKind::PlusBlockStart => 4,
-            StateKind::StarBlockStart => 5,
-            StateKind::RuleStop => 7,
-            StateKind::BlockEnd => 8,
-            StateKind::StarLoopBack => 9,
-            StateKind::StarLoopEntry => 10,
-            StateKind::PlusLoopBack => 11,
-            StateKind::LoopEnd => 12,
-        }
-    }
-
-    // The kind with that number.
-    pub fn from_number(n: i32) -> Option<StateKind>
-        ensures { MatchOption result ((k : StateKind) → pos (state_number k) ≢ n) (λ k. pos (state_number k) ≡ n) }
-    {
-        match n {
-            1 => Some(StateKind::Basic),
-            2 => Some(StateKind::RuleStart),
-            3 => Some(StateKind::BlockStart),
-            4 => Some(StateKind::PlusBlockStart),
-            5 => Some(StateKind::StarBlockStart),
-            7 => Some(StateKind::RuleStop),
-            8 => Some(StateKind::BlockEnd),
-            9 => Some(StateKind::StarLoopBack),
-            10 => Some(StateKind::StarLoopEntry),
-            11 => Some(StateKind::PlusLoopBack),
-            12 => Some(StateKind::LoopEnd),
-            _ => None,
-        }
+        self as i32
     }
 
     pub fn is_start(self) -> bool
@@ -69,8 +40,34 @@ impl StateKind {
     }
 }
 
-// A state of rule number `rule`. Its edges are those numbered from first up to end, end excluded.
-#[derive(Clone, Copy)]
+// The kind with that number.
+impl TryFrom<i32> for StateKind {
+    type Error = Denial;
+
+    ghost try_from_gives = { Numbered };
+
+    fn try_from(n: i32) -> Result<StateKind, Denial> {
+        // kept as a match: a number becomes a variant in no other way
+        match n {
+            1 => Ok(StateKind::Basic),
+            2 => Ok(StateKind::RuleStart),
+            3 => Ok(StateKind::BlockStart),
+            4 => Ok(StateKind::PlusBlockStart),
+            5 => Ok(StateKind::StarBlockStart),
+            7 => Ok(StateKind::RuleStop),
+            8 => Ok(StateKind::BlockEnd),
+            9 => Ok(StateKind::StarLoopBack),
+            10 => Ok(StateKind::StarLoopEntry),
+            11 => Ok(StateKind::PlusLoopBack),
+            12 => Ok(StateKind::LoopEnd),
+            _ => Err(Denial::BrokenRule),
+        }
+    }
+}
+
+// A state of rule number `rule`. Its edges are those numbered from first up to end, end excluded: kept as
+// numbers, since a net allocates nothing, so that the edges of all states lie in one vector.
+#[derive(Clone, Copy, Default)]
 pub struct AtnState {
     pub rule: usize,
     pub kind: StateKind,

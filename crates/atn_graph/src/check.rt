@@ -24,12 +24,8 @@ impl Graph {
         if is_outside(t) {
             return Err(Denial::OutsideLimits);
         }
-        let Some(lists) = read(t) else {
-            return Err(Denial::BrokenRule);
-        };
-        if let Some(denial) = lists.fault() {
-            return Err(denial);
-        }
+        let lists = read(t).ok_or(Denial::BrokenRule)?;
+        lists.check_rules()?;
         Ok(Graph { lists })
     }
 }

@@ -1,5 +1,6 @@
 #![tactic(auto)]
 // The graph of a net: tables as an owner writes them, kinds of states and edges, and the rules that tie them together.
+pub mod asking;
 pub mod atn_state;
 pub mod check;
 pub mod graph;

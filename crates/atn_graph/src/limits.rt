@@ -8,7 +8,7 @@ use crate::tables::{Counts, Tables};
 fn is_shorter(len: usize, count: i32) -> bool
     ensures { result ≡ shorter len count }
 {
-    count > 0 && len < count as usize
+    usize::try_from(count).is_ok_and(|count| len < count)
 }
 
 pub fn is_short(t: &Tables<'_>) -> bool
@@ -24,7 +24,7 @@ pub fn is_short(t: &Tables<'_>) -> bool
 fn is_beyond(n: i32, low: u16, high: u16) -> bool
     ensures { result ≡ outside low high n }
 {
-    n < i32::from(low) || n > i32::from(high)
+    !(i32::from(low)..=i32::from(high)).contains(&n)
 }
 
 fn are_outside(c: Counts) -> bool

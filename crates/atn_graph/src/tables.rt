@@ -34,6 +34,7 @@ pub struct Counts {
     pub intervals: i32,
 }
 
+// The counts stand beside the tables, since an owner may supply fewer rows than a count says: such tables are denied.
 #[derive(Clone, Copy)]
 pub struct Tables<'a> {
     pub max_token_type: i32,

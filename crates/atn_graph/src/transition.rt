@@ -4,8 +4,9 @@ ghost use Rattle.atn_graph.specs.Kinds.{transition_number, move_of};
 
 use interval_set::interval::Interval;
 
-#[derive(Clone, Copy)]
+#[derive(Clone, Copy, Default)]
 pub enum TransitionKind {
+    #[default]
     Epsilon,
     // any type of the interval
     Range(Interval),
@@ -15,7 +16,7 @@ pub enum TransitionKind {
     // that type, or EOF (-1)
     Atom(i32),
     Action,
-    // any type of the count intervals from number first on
+    // any type of the count intervals from number first on, kept as numbers: a net allocates nothing
     Set { first: usize, count: usize },
     // any type from 1 to the largest but those
     NotSet { first: usize, count: usize },
@@ -24,7 +25,7 @@ pub enum TransitionKind {
     Precedence,
 }
 
-#[derive(Clone, Copy)]
+#[derive(Clone, Copy, Default)]
 pub struct Transition {
     pub target: usize,
     pub kind: TransitionKind,
@@ -40,18 +41,19 @@ pub enum Move {
 }
 
 impl TransitionKind {
+    // Kept as a match: where a variant has fields, none can be given its number.
     pub fn number(self) -> i32
         ensures { result ≡ pos (transition_number self) }
     {
         match self {
             TransitionKind::Epsilon => 1,
             TransitionKind::Range(_) => 2,
-            TransitionKind::Rule { rule: _, follow: _ } => 3,
+            TransitionKind::Rule { .. } => 3,
             TransitionKind::Predicate => 4,
             TransitionKind::Atom(_) => 5,
             TransitionKind::Action => 6,
-            TransitionKind::Set { first: _, count: _ } => 7,
-            TransitionKind::NotSet { first: _, count: _ } => 8,
+            TransitionKind::Set { .. } => 7,
+            TransitionKind::NotSet { .. } => 8,
             TransitionKind::Wildcard => 9,
             TransitionKind::Precedence => 10,
         }
@@ -61,16 +63,16 @@ impl TransitionKind {
         ensures { result ≡ move_of self }
     {
         match self {
-            TransitionKind::Epsilon => Move::Along,
-            TransitionKind::Range(_) => Move::Token,
-            TransitionKind::Rule { rule: _, follow } => Move::Call { follow },
-            TransitionKind::Predicate => Move::Along,
-            TransitionKind::Atom(_) => Move::Token,
-            TransitionKind::Action => Move::Along,
-            TransitionKind::Set { first: _, count: _ } => Move::Token,
-            TransitionKind::NotSet { first: _, count: _ } => Move::Token,
-            TransitionKind::Wildcard => Move::Token,
-            TransitionKind::Precedence => Move::Along,
+            TransitionKind::Rule { follow, .. } => Move::Call { follow },
+            TransitionKind::Epsilon
+            | TransitionKind::Predicate
+            | TransitionKind::Action
+            | TransitionKind::Precedence => Move::Along,
+            TransitionKind::Range(_)
+            | TransitionKind::Atom(_)
+            | TransitionKind::Set { .. }
+            | TransitionKind::NotSet { .. }
+            | TransitionKind::Wildcard => Move::Token,
         }
     }
 }

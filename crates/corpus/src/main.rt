@@ -1,7 +1,7 @@
 // Replays the scripts of a file, each followed by a line `= ANSWER`, and prints where the answer is another.
 #![tactic(auto)]
 
-use anyhow::anyhow;
+use anyhow::Context;
 use script::parse::parse;
 use std::alloc::{AllocError, Global};
 use std::fs;
@@ -18,29 +18,26 @@ fn answer(heap: Global, text: &str) -> Result<String, AllocError> {
 }
 
 // Whether the script's answer is the expected one; if not, says so.
-fn replay(rt: &HostRuntime, number: u64, script: &str, expected: &str) -> anyhow::Result<bool> {
+fn replay(rt: &HostRuntime, number: usize, script: &str, expected: &str) -> anyhow::Result<bool> {
     let found = answer(rt.alloc(), script)?;
     let same = found.as_str() == expected;
     if !same {
-        print!(rt; "net {number}: {found}, expected ")?;
-        rt.println(expected)?;
+        println!(rt; "net {number}: {found}, expected {expected}")?;
     }
     Ok(same)
 }
 
+// The cases are read as in set_corpus; kept apart: a library for both would be longer than this loop.
 fn run(rt: &HostRuntime) -> anyhow::Result<()> {
     let text = fs::read_to_string(rt, "nets.txt")?;
-    let mut total = 0u64;
     let mut differ = 0u64;
-    for case in text.as_str().split("---\n") {
-        let Some((script, expected)) = case.split_once("= ") else {
-            return Err(anyhow!("a script has no answer"));
-        };
-        total = total.saturating_add(1);
-        if !replay(rt, total, script, expected.trim())? {
+    for (i, case) in text.as_str().split("---\n").enumerate() {
+        let (script, expected) = case.split_once("= ").context("a script has no answer")?;
+        if !replay(rt, i.saturating_add(1), script, expected.trim())? {
             differ = differ.saturating_add(1);
         }
     }
+    let total = text.as_str().split("---\n").count();
     println!(rt; "{total} nets replayed, {differ} differ")?;
     Ok(())
 }

@@ -5,33 +5,33 @@ ghost use Rattle.errors.specs.Denials.{denial_number};
 #[derive(Clone, Copy, PartialEq, Eq, Debug)]
 pub enum Denial {
     // a table of the net is shorter than its count
-    ShortTable,
+    ShortTable = 1,
     // a count of the net, or its largest token type, is outside its limits
-    OutsideLimits,
+    OutsideLimits = 2,
     // the tables break a rule of the net
-    BrokenRule,
+    BrokenRule = 3,
     // a rule of the net is left-recursive
-    LeftRecursion,
+    LeftRecursion = 4,
     // a chain is too long, or a state in it calls no rule
-    FaultyChain,
+    FaultyChain = 5,
     // a tape breaks a rule of tapes
-    FaultyTape,
+    FaultyTape = 6,
     // no rule is open
-    NoRuleOpen,
+    NoRuleOpen = 7,
     // a state lies outside the net
-    StateOutside,
+    StateOutside = 8,
     // a rule is entered that the state's edge does not call
-    WrongRule,
+    WrongRule = 9,
     // as many rules are open as may be
-    TooManyRules,
+    TooManyRules = 10,
     // more leaves are needed than are free
-    NoLeafFree,
+    NoLeafFree = 11,
     // a search begins on a kind of state that has none
-    WrongSearch,
+    WrongSearch = 12,
     // there is no such report, or no mismatch to report
-    WrongReport,
+    WrongReport = 13,
     // a number outside -2..255 was to go into a set
-    SetValue,
+    SetValue = 14,
 }
 
 impl Denial {
@@ -39,21 +39,6 @@ impl Denial {
     pub fn number(self) -> u8
         ensures { result ≡ denial_number self }
     {
-        match self {
-            Denial::ShortTable => 1,
-            Denial::OutsideLimits => 2,
-            Denial::BrokenRule => 3,
-            Denial::LeftRecursion => 4,
-            Denial::FaultyChain => 5,
-            Denial::FaultyTape => 6,
-            Denial::NoRuleOpen => 7,
-            Denial::StateOutside => 8,
-            Denial::WrongRule => 9,
-            Denial::TooManyRules => 10,
-            Denial::NoLeafFree => 11,
-            Denial::WrongSearch => 12,
-            Denial::WrongReport => 13,
-            Denial::SetValue => 14,
-        }
+        self as u8
     }
 }

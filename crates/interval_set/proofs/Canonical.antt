@@ -1,14 +1,16 @@
 -- A set has one list of intervals.
-use Rattle.std.proofs.Common.{◌≡◌, Bool, true, false, Decides, int_eq, List, [], ◌∷◌, ℤ, pos, ◌+ℤ◌, ◌≤ℤ◌, ◌<ℤ◌, sym, refl, ap, ◌∙◌, inl, inr, arith}
+use Rattle.std.proofs.Common.{◌≡◌, true, Decides, int_eq, List, [], ◌∷◌, ℤ, pos, ◌+ℤ◌, ◌≤ℤ◌, ◌<ℤ◌, sym, refl, ap, ◌∙◌, inl, inr, arith}
 use Rattle.std.proofs.lemmas.Int.{ints, by_lt_z}
 use Rattle.std.proofs.lemmas.Bool.Decides.{Decides-and, Decides-int_eq}
+use Rattle.std.specs.Option.{option_map}
+use Rattle.std.specs.List.{slice_get}
 use Rattle.std.specs.Cmp.Lexicographic.{pointwise, pointwise_decides}
 use Rattle.std.proofs.lemmas.Bool.{or_cases, or_left, or_right, true≢false}
 use Rattle.interval_set.specs.declared.interval.Interval.{Interval}
 use Rattle.interval_set.specs.declared.set.IntervalSet.{IntervalSet}
-use Rattle.interval_set.specs.Intervals.{from_to, inside, has, smallest, rising_from}
-use Rattle.interval_set.specs.Members.{intervals, Canonical, same_ends, Equal}
-use Rattle.interval_set.proofs.Rising.{same_tests, between, inside_from, Fit, fit, rest, risen, bounded}
+use Rattle.interval_set.specs.Intervals.{from_to, inside, has, smallest, rising_from, rising}
+use Rattle.interval_set.specs.Members.{intervals, Canonical, Smallest, same_ends, Equal}
+use Rattle.interval_set.proofs.Rising.{same_tests, between, inside_from, Fit, fit, rest, risen, bounded, least}
 
 -- the first number of a list that is not empty
 first : (low : ℤ) (i : Interval) (is : List Interval) → rising_from low (i ∷ is) ≡ true → has (i ∷ is) i.a ≡ true
@@ -71,32 +73,21 @@ one_list low down (i ∷ is) (j ∷ js) p q same =
 pub canonical : Canonical
 canonical s t same = one_list smallest smallest (intervals s) (intervals t) s.rising t.rising same
 
--- so a comparison of the intervals is one of the numbers
-pub equal_yes : (s t : IntervalSet) → intervals s ≡ intervals t → Equal s t true
-equal_yes s t e = record { members = (λ _ x. ap (λ is. has is x) e, λ _. refl); lists = (λ _. e, λ _. refl) }
-
-pub equal_no : (s t : IntervalSet) → (intervals s ≡ intervals t → ⊥) → Equal s t false
-equal_no s t never = record { members = (λ h. absurd (true≢false (sym h)), λ same. absurd (never (canonical s t same))); lists = (λ h. absurd (true≢false (sym h)), λ e. absurd (never e)) }
-
 -- intervals with the same ends are the same
 decides : (i j : Interval) → Decides (same_ends i j) (i ≡ j)
 decides i j =
     let ends = Decides-and (int_eq i.a j.a) (int_eq i.b j.b) (Decides-int_eq i.a j.a) (Decides-int_eq i.b j.b) in
     (λ h. let e = ends.0 h in ap (λ x. from_to x i.b) e.0 ∙ ap (from_to j.a) e.1, λ e. ends.1 (ap (λ k. k.a) e, ap (λ k. k.b) e))
 
--- so a test of the ends, place by place, is one of the lists
-pub told_yes : (s t : IntervalSet) → intervals s ≡ intervals t → true ≡ pointwise same_ends (intervals s) (intervals t)
-told_yes s t e = sym ((pointwise_decides decides (intervals s) (intervals t)).1 e)
-
-pub told_no : (s t : IntervalSet) → (intervals s ≡ intervals t → ⊥) → false ≡ pointwise same_ends (intervals s) (intervals t)
-told_no s t never = not_told _ (λ h. never ((pointwise_decides decides (intervals s) (intervals t)).0 h))
-  where
-    not_told : (b : Bool) → (b ≡ true → ⊥) → false ≡ b
-    not_told true n = absurd (n refl)
-    not_told false n = refl
-
--- and one of the numbers
+-- so a test of the ends, place by place, is one of the lists, and one of the numbers
 pub equal_told : (s t : IntervalSet) → Equal s t (pointwise same_ends (intervals s) (intervals t))
 equal_told s t =
     let told = pointwise_decides decides (intervals s) (intervals t) in
     record { members = (λ h x. ap (λ is. has is x) (told.0 h), λ same. told.1 (canonical s t same)); lists = told }
+
+-- the first interval begins at the smallest number
+pub smallest_of : (s : IntervalSet) (is : List Interval) → is ≡ intervals s → Smallest s (option_map (λ i. i.a) (slice_get is 0))
+smallest_of s [] e = λ x. ap (λ js. has js x) (sym e)
+smallest_of s (i ∷ is) e =
+    let l = least i is (ap rising e ∙ s.rising) in
+    (ap (λ js. has js i.a) (sym e) ∙ l.0, λ x h. l.1 x (ap (λ js. has js x) e ∙ h))

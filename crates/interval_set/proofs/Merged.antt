@@ -1,15 +1,13 @@
 -- A rising list with one interval more, joined with those that it touches.
-use Rattle.std.proofs.Common.{◌≡◌, ℕ, ◌+◌, ◌<◌, ◌≤◌, Bool, true, false, cond, ◌||◌, List, [], ◌∷◌, ◌++◌, drop, ℤ, pos, ◌+ℤ◌, ◌≤ℤ◌, ◌<ℤ◌, sym, refl, ap, ◌∙◌, subst, inl, inr, arith}
+use Rattle.std.proofs.Common.{◌≡◌, ℕ, ◌+◌, ◌<◌, ◌≤◌, Bool, true, false, cond, ◌||◌, List, [], ◌∷◌, ◌++◌, length, drop, ℤ, pos, ◌+ℤ◌, ◌≤ℤ◌, ◌<ℤ◌, sym, refl, ap, ◌∙◌, subst, inl, inr, arith}
 use lib.Signed.{lt_z}
 use Rattle.std.specs.Int.{int_min, int_max}
-use Rattle.std.proofs.lemmas.List.{append_assoc}
+use Rattle.std.proofs.lemmas.List.{append_assoc, drop_all}
 use Rattle.std.proofs.lemmas.Int.{ints, clamps, by_lt_z}
 use Rattle.std.proofs.lemmas.Bool.{or_cases, or_left, or_right, cond-true, cond-false}
 use Rattle.interval_set.specs.declared.interval.Interval.{Interval}
-use Rattle.interval_set.specs.declared.set.IntervalSet.{IntervalSet}
 use Rattle.interval_set.specs.Intervals.{from_to, inside, has, smallest, rising_from, rising}
-use Rattle.interval_set.specs.Members.{intervals}
-use Rattle.interval_set.proofs.Rising.{same_tests, between, inside_from, Fit, fit, rest, risen, lower, front_of, place, next, none, place_fits}
+use Rattle.interval_set.proofs.Rising.{same_tests, between, inside_from, Fit, fit, rest, risen, lower, front_of, place, next, place_fits}
 
 -- the smallest interval that holds both
 abbrev pub both : Interval → Interval → Interval
@@ -84,36 +82,36 @@ merged_rises low i (j ∷ js) f e =
     (λ l. risen low i (merged j js) f (merged_rises (i.b +ℤ pos 2) j js (record { from = omega (arith, ints); some = g.some; by = g.by }) (lower (j.b +ℤ pos 2) (i.b +ℤ pos 2) js (omega (arith, ints)) r)))
     (λ s t. merged_rises low (both i j) js (both_fit low i j f g) (lower (j.b +ℤ pos 2) low js (omega (arith, ints)) r))
 
--- The loop over s: out is written, and i is to be put into the intervals from k on.
-abbrev pub Merging : Interval → IntervalSet → ℕ → List Interval → Interval → Type 0
-Merging added s k out i = (out ++ merged i (drop k (intervals s)) ≡ merged added (intervals s)) × Fit smallest i
+-- The loop over the whole list: out is written, and i is to be put into the intervals from k on.
+abbrev pub Merging : Interval → List Interval → ℕ → List Interval → Interval → Type 0
+Merging added whole k out i = (out ++ merged i (drop k whole) ≡ merged added whole) × Fit smallest i
 
-pub so_far : (added : Interval) (s : IntervalSet) (k : ℕ) (out : List Interval) (i : Interval) → rising (added ∷ []) ≡ true → Merging added s k out i → rising out ≡ true
-so_far added s k out i p inv = front_of out _ _ inv.0 (merged_rises smallest added (intervals s) (fit smallest added [] p) s.rising)
+pub so_far : (added : Interval) (whole : List Interval) (k : ℕ) (out : List Interval) (i : Interval) → rising whole ≡ true → rising (added ∷ []) ≡ true → Merging added whole k out i → rising out ≡ true
+so_far added whole k out i rises p inv = front_of out _ _ inv.0 (merged_rises smallest added whole (fit smallest added [] p) rises)
 
 -- the same state under other names
-pub carry : (added : Interval) (s : IntervalSet) (k : ℕ) {out new : List Interval} {i j : Interval} → new ≡ out → j ≡ i → Merging added s k out i → Merging added s k new j
-carry added s k {out} {new} {i} {j} e f inv = subst (λ is. Merging added s k is j) (sym e) (subst (Merging added s k out) (sym f) inv)
+pub carry : (added : Interval) (whole : List Interval) (k : ℕ) {out new : List Interval} {i j : Interval} → new ≡ out → j ≡ i → Merging added whole k out i → Merging added whole k new j
+carry added whole k {out} {new} {i} {j} e f inv = subst (λ is. Merging added whole k is j) (sym e) (subst (Merging added whole k out) (sym f) inv)
 
 pub is_both : (r i j : Interval) → r.a ≡ int_min i.a j.a → r.b ≡ int_max i.b j.b → r ≡ both i j
 is_both r i j e f = ap (λ x. from_to x r.b) e ∙ ap (from_to (int_min i.a j.a)) f
 
-module _ (added : Interval) (s : IntervalSet) (k : ℕ) (out : List Interval) (i : Interval) (inv : Merging added s k out i) where
-  opened : (l : k < s.len) (is : List Interval) → merged i (place s k ∷ drop (k + 1) (intervals s)) ≡ is → out ++ is ≡ merged added (intervals s)
-  opened l is h = ap (λ js. out ++ js) (sym h ∙ ap (merged i) (sym (next s k l))) ∙ inv.0
+module _ (added : Interval) (whole : List Interval) (k : ℕ) (out : List Interval) (i : Interval) (inv : Merging added whole k out i) where
+  opened : (l : k < length whole) (is : List Interval) → merged i (place whole k ∷ drop (k + 1) whole) ≡ is → out ++ is ≡ merged added whole
+  opened l is h = ap (λ js. out ++ js) (sym h ∙ ap (merged i) (sym (next whole k l))) ∙ inv.0
 
-  pub go_left : k < s.len → ((place s k).b +ℤ pos 1) <ℤ i.a → Merging added s (k + 1) (out ++ place s k ∷ []) i
-  go_left l h = (append_assoc out _ _ ∙ opened l _ (merged_left i (place s k) (drop (k + 1) (intervals s)) h), inv.1)
+  pub go_left : k < length whole → ((place whole k).b +ℤ pos 1) <ℤ i.a → Merging added whole (k + 1) (out ++ place whole k ∷ []) i
+  go_left l h = (append_assoc out _ _ ∙ opened l _ (merged_left i (place whole k) (drop (k + 1) whole) h), inv.1)
 
-  pub go_right : k < s.len → i.a ≤ℤ ((place s k).b +ℤ pos 1) → (i.b +ℤ pos 1) <ℤ (place s k).a → Merging added s (k + 1) (out ++ i ∷ []) (place s k)
-  go_right l h g = (append_assoc out _ _ ∙ opened l _ (merged_right i (place s k) (drop (k + 1) (intervals s)) h g), place_fits s k l)
+  pub go_right : rising whole ≡ true → k < length whole → i.a ≤ℤ ((place whole k).b +ℤ pos 1) → (i.b +ℤ pos 1) <ℤ (place whole k).a → Merging added whole (k + 1) (out ++ i ∷ []) (place whole k)
+  go_right rises l h g = (append_assoc out _ _ ∙ opened l _ (merged_right i (place whole k) (drop (k + 1) whole) h g), place_fits whole k l rises)
 
-  pub go_both : k < s.len → i.a ≤ℤ ((place s k).b +ℤ pos 1) → (place s k).a ≤ℤ (i.b +ℤ pos 1) → Merging added s (k + 1) out (both i (place s k))
-  go_both l h g = (opened l _ (merged_both i (place s k) (drop (k + 1) (intervals s)) h g), both_fit smallest i (place s k) inv.1 (place_fits s k l))
+  pub go_both : rising whole ≡ true → k < length whole → i.a ≤ℤ ((place whole k).b +ℤ pos 1) → (place whole k).a ≤ℤ (i.b +ℤ pos 1) → Merging added whole (k + 1) out (both i (place whole k))
+  go_both rises l h g = (opened l _ (merged_both i (place whole k) (drop (k + 1) whole) h g), both_fit smallest i (place whole k) inv.1 (place_fits whole k l rises))
 
 -- at the end i is the last
-pub all_merged : (added : Interval) (s : IntervalSet) (k : ℕ) (out : List Interval) (i : Interval) → Merging added s k out i → s.len ≤ k → out ++ i ∷ [] ≡ merged added (intervals s)
-all_merged added s k out i inv l = ap (λ is. out ++ merged i is) (sym (none s k l)) ∙ inv.0
+pub all_merged : (added : Interval) (whole : List Interval) (k : ℕ) (out : List Interval) (i : Interval) → Merging added whole k out i → length whole ≤ k → out ++ i ∷ [] ≡ merged added whole
+all_merged added whole k out i inv l = ap (λ is. out ++ merged i is) (sym (drop_all k whole l)) ∙ inv.0
 
 or_turn : (s t : Bool) → (s || t) ≡ (t || s)
 or_turn true true = refl
@@ -122,5 +120,5 @@ or_turn false true = refl
 or_turn false false = refl
 
 -- what comes out has the numbers of the set and those of the interval
-pub merged_holds : (added : Interval) (s : IntervalSet) (is : List Interval) → rising (added ∷ []) ≡ true → is ≡ merged added (intervals s) → (x : ℤ) → has is x ≡ (has (intervals s) x || inside added x)
-merged_holds added s is p e x = ap (λ js. has js x) e ∙ merged_has smallest added (intervals s) x (fit smallest added [] p).some s.rising ∙ or_turn (inside added x) (has (intervals s) x)
+pub merged_holds : (added : Interval) (whole : List Interval) (is : List Interval) → rising whole ≡ true → rising (added ∷ []) ≡ true → is ≡ merged added whole → (x : ℤ) → has is x ≡ (has whole x || inside added x)
+merged_holds added whole is rises p e x = ap (λ js. has js x) e ∙ merged_has smallest added whole x (fit smallest added [] p).some rises ∙ or_turn (inside added x) (has whole x)

@@ -1,13 +1,11 @@
 -- Rising lists of intervals: what holds of their parts, of their numbers and of their length.
-use Rattle.std.proofs.Common.{◌≡◌, ℕ, zero, suc, ◌+◌, ◌*◌, ◌<◌, ◌≤◌, Bool, true, false, List, [], ◌∷◌, ◌++◌, length, get_or, take, drop, set, ℤ, pos, ◌+ℤ◌, ◌≤ℤ◌, Some, sym, refl, ap, ◌∙◌, subst, inl, inr, arith}
+use Rattle.std.proofs.Common.{◌≡◌, ℕ, zero, suc, ◌+◌, ◌*◌, ◌<◌, Bool, true, false, List, [], ◌∷◌, ◌++◌, length, get_or, drop, ℤ, pos, ◌+ℤ◌, ◌≤ℤ◌, sym, refl, ap, ◌∙◌, inl, inr, arith}
 use lib.Signed.{le_z}
-use Rattle.std.proofs.lemmas.List.{drop_all, drop_more, length_push, length-take, length-take-le, get_or-take, take_more_set}
+use Rattle.std.proofs.lemmas.List.{drop_more, length_push}
 use Rattle.std.proofs.lemmas.Int.{ints}
 use Rattle.std.proofs.lemmas.Bool.{and_parts, and_from, or_cases, or_left, true≢false, cases_Bool}
 use Rattle.interval_set.specs.declared.interval.Interval.{Interval}
-use Rattle.interval_set.specs.declared.set.IntervalSet.{IntervalSet}
 use Rattle.interval_set.specs.Intervals.{inside, has, smallest, largest, rising_from, rising}
-use Rattle.interval_set.specs.Members.{intervals, Smallest}
 
 -- two tests that follow from one another have one answer
 pub same_tests : (s t : Bool) → (s ≡ true → t ≡ true) → (t ≡ true → s ≡ true) → s ≡ t
@@ -87,52 +85,33 @@ fit_at low [] k d s l e = absurd (omega arith)
 fit_at low (i ∷ is) zero d s l e = let f = fit low i is e in record { from = omega (arith, ints); some = f.some; by = f.by }
 fit_at low (i ∷ is) (suc k) d s l e = let f = fit low i is e in fit_at (i.b +ℤ pos 2) is k d (omega (arith, ints)) (omega arith) (rest low i is e)
 
--- The intervals of a set.
+-- The intervals of a list, one by one.
 
 abbrev pub no_interval : Interval
 no_interval = record { a = pos 0; b = pos 0 }
 
-abbrev pub place : IntervalSet → ℕ → Interval
-place s k = get_or s.places k no_interval
-
-pub count : (s : IntervalSet) → length (intervals s) ≡ s.len
-count s = length-take-le s.len s.places (omega arith)
-
--- a set that can take one interval more has a place for it
-pub room : (s : IntervalSet) (i : Interval) → rising (intervals s ++ i ∷ []) ≡ true → s.len < 130
-room s i r =
-    let t = taken smallest (intervals s ++ i ∷ []) (omega (arith, ints)) r in
-    let n = length_push (intervals s) i in
-    let m = count s in
-    omega (arith, ints)
-
--- and then has it last
-pub pushed : (s : IntervalSet) (i : Interval) → rising (intervals s ++ i ∷ []) ≡ true → take (s.len + 1) (set s.places s.len i) ≡ intervals s ++ i ∷ []
-pushed s i r = let l = room s i r in take_more_set s.places s.len i (omega arith)
+abbrev pub place : List Interval → ℕ → Interval
+place is k = get_or is k no_interval
 
 -- the next interval of those from k on
-pub next : (s : IntervalSet) (k : ℕ) → k < s.len → drop k (intervals s) ≡ place s k ∷ drop (k + 1) (intervals s)
-next s k l = let n = count s in drop_more (intervals s) k no_interval (omega arith) ∙ ap (λ i. i ∷ drop (k + 1) (intervals s)) (get_or-take s.len s.places k no_interval l)
+pub next : (is : List Interval) (k : ℕ) → k < length is → drop k is ≡ place is k ∷ drop (k + 1) is
+next is k l = drop_more is k no_interval l
 
--- none is left at the end
-pub none : (s : IntervalSet) (k : ℕ) → s.len ≤ k → drop k (intervals s) ≡ []
-none s k l = drop_all k (intervals s) (omega (arith, length-take s.len s.places))
+pub place_fits : (is : List Interval) (k : ℕ) → k < length is → rising is ≡ true → Fit smallest (place is k)
+place_fits is k l r = fit_at smallest is k no_interval (omega (arith, ints)) l r
 
-pub place_fits : (s : IntervalSet) (k : ℕ) → k < s.len → Fit smallest (place s k)
-place_fits s k l = let n = count s in subst (Fit smallest) (get_or-take s.len s.places k no_interval l) (fit_at smallest (intervals s) k no_interval (omega (arith, ints)) (omega arith) s.rising)
+-- a rising list leaves room for one interval more
+pub room : (is : List Interval) (i : Interval) → rising (is ++ i ∷ []) ≡ true → length is < 130
+room is i r =
+    let t = taken smallest (is ++ i ∷ []) (omega (arith, ints)) r in
+    let n = length_push is i in
+    omega (arith, ints)
 
--- the first interval begins at the smallest number
-pub least : (s : IntervalSet) (m : ℤ) → 0 < s.len → m ≡ (place s 0).a → Smallest s (Some m)
-least s m l e =
-    let i = place s 0 in
-    let n : intervals s ≡ i ∷ drop 1 (intervals s) = next s 0 l in
-    let f = place_fits s 0 l in
-    let r = rest smallest i (drop 1 (intervals s)) (subst (λ is. rising is ≡ true) n s.rising) in
-    let g : Fit m i = record { from = omega (arith, ints); some = f.some; by = f.by } in (
-      ap (λ is. has is m) n ∙ or_left (inside i m) _ (inside_from i m (omega (arith, ints)) (omega (arith, ints))),
-      λ x h. bounded m (i ∷ drop 1 (intervals s)) x (risen m i (drop 1 (intervals s)) g r) (subst (λ is. has is x ≡ true) n h),
+-- a rising list begins with its smallest number
+pub least : (i : Interval) (is : List Interval) → rising (i ∷ is) ≡ true → (has (i ∷ is) i.a ≡ true) × ((x : ℤ) → has (i ∷ is) x ≡ true → i.a ≤ℤ x)
+least i is r =
+    let f = fit smallest i is r in
+    let g : Fit i.a i = record { from = omega (arith, ints); some = f.some; by = f.by } in (
+      or_left (inside i i.a) _ (inside_from i i.a (omega (arith, ints)) (omega (arith, ints))),
+      λ x h. bounded i.a (i ∷ is) x (risen i.a i is g (rest smallest i is r)) h,
     )
-
--- sets with the same intervals have the same interval at a place
-pub same_places : (s t : IntervalSet) (k : ℕ) → intervals s ≡ intervals t → k < s.len → k < t.len → place s k ≡ place t k
-same_places s t k e l m = sym (get_or-take s.len s.places k no_interval l) ∙ ap (λ is. get_or is k no_interval) e ∙ get_or-take t.len t.places k no_interval m

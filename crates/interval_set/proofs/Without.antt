@@ -1,15 +1,13 @@
 -- A rising list without the numbers of an interval.
-use Rattle.std.proofs.Common.{◌≡◌, ℕ, ◌+◌, ◌<◌, ◌≤◌, Bool, true, false, cond, not, ◌&&◌, ◌||◌, List, [], ◌∷◌, ◌++◌, drop, ℤ, pos, ◌+ℤ◌, ◌-ℤ◌, ◌≤ℤ◌, ◌<ℤ◌, sym, refl, ap, ◌∙◌, arith}
+use Rattle.std.proofs.Common.{◌≡◌, ℕ, ◌+◌, ◌<◌, ◌≤◌, Bool, true, false, cond, not, ◌&&◌, ◌||◌, List, [], ◌∷◌, ◌++◌, length, drop, ℤ, pos, ◌+ℤ◌, ◌-ℤ◌, ◌≤ℤ◌, ◌<ℤ◌, sym, refl, ap, ◌∙◌, arith}
 use lib.Signed.{le_z, lt_z}
 use Rattle.std.specs.Int.{int_min, int_max}
-use Rattle.std.proofs.lemmas.List.{append_assoc, append-nil}
+use Rattle.std.proofs.lemmas.List.{append_assoc, append-nil, drop_all}
 use Rattle.std.proofs.lemmas.Int.{ints, clamps, by_lt_z}
 use Rattle.std.proofs.lemmas.Bool.{and_parts, and_from, and_left, and_right, or_left, or_right, or_from, not_from_true, not_from_false, cond-true, cond-false, true≢false}
 use Rattle.interval_set.specs.declared.interval.Interval.{Interval}
-use Rattle.interval_set.specs.declared.set.IntervalSet.{IntervalSet}
 use Rattle.interval_set.specs.Intervals.{from_to, inside, has, smallest, largest, rising_from, rising}
-use Rattle.interval_set.specs.Members.{intervals}
-use Rattle.interval_set.proofs.Rising.{same_tests, between, inside_from, Fit, fit, rest, risen, lower, front_of, place, next, none}
+use Rattle.interval_set.proofs.Rising.{same_tests, between, inside_from, Fit, fit, rest, risen, lower, front_of, place, next}
 
 -- what lies of i below r, and above r
 abbrev pub under : Interval → Interval → Interval
@@ -106,38 +104,38 @@ is_under r i j e f = ap (λ x. from_to x j.b) e ∙ ap (from_to i.a) f
 pub is_over : (r i j : Interval) → j.a ≡ int_max i.a (r.b +ℤ pos 1) → j.b ≡ i.b → j ≡ over r i
 is_over r i j e f = ap (λ x. from_to x j.b) e ∙ ap (from_to (int_max i.a (r.b +ℤ pos 1))) f
 
--- The loop over s: out is written, and is what comes of the intervals before k.
-abbrev pub Removing : Interval → IntervalSet → ℕ → List Interval → Type 0
-Removing r s k out = out ++ without r (drop k (intervals s)) ≡ without r (intervals s)
+-- The loop over the whole list: out is written, and is what comes of the intervals before k.
+abbrev pub Removing : Interval → List Interval → ℕ → List Interval → Type 0
+Removing r whole k out = out ++ without r (drop k whole) ≡ without r whole
 
 -- and when what lies of the interval at k below r has been written too
-abbrev pub Halfway : Interval → IntervalSet → ℕ → List Interval → Type 0
-Halfway r s k out = out ++ above r (place s k) (without r (drop (k + 1) (intervals s))) ≡ without r (intervals s)
+abbrev pub Halfway : Interval → List Interval → ℕ → List Interval → Type 0
+Halfway r whole k out = out ++ above r (place whole k) (without r (drop (k + 1) whole)) ≡ without r whole
 
-module _ (r : Interval) (s : IntervalSet) (k : ℕ) (out : List Interval) (l : k < s.len) (inv : Removing r s k out) where
-  opened : out ++ without r (place s k ∷ drop (k + 1) (intervals s)) ≡ without r (intervals s)
-  opened = ap (λ is. out ++ without r is) (sym (next s k l)) ∙ inv
+module _ (r : Interval) (whole : List Interval) (k : ℕ) (out : List Interval) (l : k < length whole) (inv : Removing r whole k out) where
+  opened : out ++ without r (place whole k ∷ drop (k + 1) whole) ≡ without r whole
+  opened = ap (λ is. out ++ without r is) (sym (next whole k l)) ∙ inv
 
-  pub write_under : (j : Interval) → j ≡ under r (place s k) → (place s k).a <ℤ r.a → Halfway r s k (out ++ j ∷ [])
-  write_under j d h = ap (λ i. (out ++ i ∷ []) ++ above r (place s k) (without r (drop (k + 1) (intervals s)))) d ∙ append_assoc out _ _ ∙ ap (λ is. out ++ is) (sym (cond-true (lt_z (place s k).a r.a) _ _ (sym (omega (arith, ints))))) ∙ opened
+  pub write_under : (j : Interval) → j ≡ under r (place whole k) → (place whole k).a <ℤ r.a → Halfway r whole k (out ++ j ∷ [])
+  write_under j d h = ap (λ i. (out ++ i ∷ []) ++ above r (place whole k) (without r (drop (k + 1) whole))) d ∙ append_assoc out _ _ ∙ ap (λ is. out ++ is) (sym (cond-true (lt_z (place whole k).a r.a) _ _ (sym (omega (arith, ints))))) ∙ opened
 
-  pub pass_under : r.a ≤ℤ (place s k).a → Halfway r s k out
-  pass_under h = ap (λ is. out ++ is) (sym (cond-false (lt_z (place s k).a r.a) _ _ (sym (omega (arith, ints))))) ∙ opened
+  pub pass_under : r.a ≤ℤ (place whole k).a → Halfway r whole k out
+  pass_under h = ap (λ is. out ++ is) (sym (cond-false (lt_z (place whole k).a r.a) _ _ (sym (omega (arith, ints))))) ∙ opened
 
-module _ (r : Interval) (s : IntervalSet) (k : ℕ) (out : List Interval) (inv : Halfway r s k out) where
-  pub write_over : (j : Interval) → j ≡ over r (place s k) → r.b <ℤ (place s k).b → Removing r s (k + 1) (out ++ j ∷ [])
-  write_over j d h = ap (λ i. (out ++ i ∷ []) ++ without r (drop (k + 1) (intervals s))) d ∙ append_assoc out _ _ ∙ ap (λ is. out ++ is) (sym (cond-true (lt_z r.b (place s k).b) _ _ (sym (omega (arith, ints))))) ∙ inv
+module _ (r : Interval) (whole : List Interval) (k : ℕ) (out : List Interval) (inv : Halfway r whole k out) where
+  pub write_over : (j : Interval) → j ≡ over r (place whole k) → r.b <ℤ (place whole k).b → Removing r whole (k + 1) (out ++ j ∷ [])
+  write_over j d h = ap (λ i. (out ++ i ∷ []) ++ without r (drop (k + 1) whole)) d ∙ append_assoc out _ _ ∙ ap (λ is. out ++ is) (sym (cond-true (lt_z r.b (place whole k).b) _ _ (sym (omega (arith, ints))))) ∙ inv
 
-  pub pass_over : (place s k).b ≤ℤ r.b → Removing r s (k + 1) out
-  pass_over h = ap (λ is. out ++ is) (sym (cond-false (lt_z r.b (place s k).b) _ _ (sym (omega (arith, ints))))) ∙ inv
+  pub pass_over : (place whole k).b ≤ℤ r.b → Removing r whole (k + 1) out
+  pass_over h = ap (λ is. out ++ is) (sym (cond-false (lt_z r.b (place whole k).b) _ _ (sym (omega (arith, ints))))) ∙ inv
 
 -- what is written so far rises
-pub half_rises : (r : Interval) (s : IntervalSet) (k : ℕ) (out : List Interval) → r.a ≤ℤ r.b → Halfway r s k out → rising out ≡ true
-half_rises r s k out p inv = front_of out (above r (place s k) (without r (drop (k + 1) (intervals s)))) (without r (intervals s)) inv (without_rises smallest r (intervals s) p s.rising)
+pub half_rises : (r : Interval) (whole : List Interval) (k : ℕ) (out : List Interval) → rising whole ≡ true → r.a ≤ℤ r.b → Halfway r whole k out → rising out ≡ true
+half_rises r whole k out rises p inv = front_of out (above r (place whole k) (without r (drop (k + 1) whole))) (without r whole) inv (without_rises smallest r whole p rises)
 
-pub written_rises : (r : Interval) (s : IntervalSet) (k : ℕ) (out : List Interval) → r.a ≤ℤ r.b → Removing r s k out → rising out ≡ true
-written_rises r s k out p inv = front_of out (without r (drop k (intervals s))) (without r (intervals s)) inv (without_rises smallest r (intervals s) p s.rising)
+pub written_rises : (r : Interval) (whole : List Interval) (k : ℕ) (out : List Interval) → rising whole ≡ true → r.a ≤ℤ r.b → Removing r whole k out → rising out ≡ true
+written_rises r whole k out rises p inv = front_of out (without r (drop k whole)) (without r whole) inv (without_rises smallest r whole p rises)
 
 -- at the end that is all
-pub all_removed : (r : Interval) (s : IntervalSet) (k : ℕ) (out : List Interval) → Removing r s k out → s.len ≤ k → out ≡ without r (intervals s)
-all_removed r s k out inv l = sym (append-nil out) ∙ ap (λ is. out ++ without r is) (sym (none s k l)) ∙ inv
+pub all_removed : (r : Interval) (whole : List Interval) (k : ℕ) (out : List Interval) → Removing r whole k out → length whole ≤ k → out ≡ without r whole
+all_removed r whole k out inv l = sym (append-nil out) ∙ ap (λ is. out ++ without r is) (sym (drop_all k whole l)) ∙ inv

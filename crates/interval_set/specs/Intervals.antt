@@ -1,5 +1,6 @@
 -- Which numbers an interval holds, and when a list of intervals is one way, and the only way, to write a set.
-use Rattle.std.specs.Prelude.{Bool, true, false, ◌&&◌, ◌||◌, List, [], ◌∷◌, ℤ, pos, negsuc, ◌+ℤ◌, int_le, int_lt}
+use Rattle.std.specs.Prelude.{Bool, true, ◌&&◌, ◌||◌, List, [], ◌∷◌, ℤ, pos, negsuc, ◌+ℤ◌, int_le, int_lt}
+use Rattle.std.specs.List.{list_any}
 use Rattle.interval_set.specs.declared.interval.Interval.{Interval}
 
 -- from a to b
@@ -12,8 +13,7 @@ inside i x = int_le i.a x && int_le x i.b
 
 -- x lies in one of the intervals
 abbrev pub has : List Interval → ℤ → Bool
-has [] x = false
-has (i ∷ is) x = inside i x || has is x
+has is x = list_any (λ i. inside i x) is
 
 -- the smallest and the largest number that a set can hold
 abbrev pub smallest : ℤ

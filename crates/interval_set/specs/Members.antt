@@ -1,16 +1,17 @@
 -- What a set holds, and what its operations do to that.
-use Rattle.std.specs.Prelude.{◌≡◌, ℕ, zero, suc, ◌+◌, Bool, true, false, cond, not, ◌&&◌, ◌||◌, List, take, ℤ, pos, ◌+ℤ◌, ◌≤ℤ◌, Some, None, Ok, Err, Decides, Option, Result}
+use Rattle.std.specs.Prelude.{◌≡◌, ℕ, zero, suc, ◌+◌, Bool, true, false, cond, not, ◌&&◌, ◌||◌, List, ℤ, pos, ◌+ℤ◌, ◌≤ℤ◌, Some, None, Ok, Err, Decides, Option, Result}
 use Rattle.std.specs.Ordering.{int_eq}
 use Rattle.std.specs.Cmp.{IsPartialEquivalence, int_eq_equiv, partial_equiv_from_equiv, on_per, and_per}
 use Rattle.errors.specs.declared.denial.Denial.{Denial}
 use Rattle.errors.specs.declared.denial.Denial.TheVariants.{SetValue}
+use Rattle.fixed_vec.specs.Items.{items}
 use Rattle.interval_set.specs.declared.interval.Interval.{Interval}
 use Rattle.interval_set.specs.declared.set.IntervalSet.{IntervalSet}
 use Rattle.interval_set.specs.Intervals.{inside, has, addable, smallest}
 
 -- the set's intervals, in their order
 abbrev pub intervals : IntervalSet → List Interval
-intervals s = take s.len s.places
+intervals s = items s.intervals
 
 -- x is one of the set's numbers
 abbrev pub holds : IntervalSet → ℤ → Bool

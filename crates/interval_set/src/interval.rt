@@ -1,8 +1,9 @@
 ghost use Rattle.std.specs.Prelude.{◌≡◌, pos, ◌+ℤ◌, ◌-ℤ◌, ◌<ℤ◌};
 ghost use Rattle.std.specs.Int.{int_min, int_max};
+ghost use Rattle.interval_set.specs.Intervals.{inside};
 
 // The numbers from a to b, both included. One with b below a is empty.
-#[derive(Clone, Copy, PartialEq, Eq, Debug)]
+#[derive(Clone, Copy, PartialEq, Eq, Default, Debug)]
 pub struct Interval {
     pub a: i32,
     pub b: i32,
@@ -18,6 +19,13 @@ impl Interval {
             a: self.a.min(another.a),
             b: self.b.max(another.b),
         }
+    }
+
+    // Whether x is one of its numbers.
+    pub(crate) fn contains(self, x: i32) -> bool
+        ensures { result ≡ inside self x }
+    {
+        self.a <= x && x <= self.b
     }
 
     // What lies below the other, of an interval that begins below it.

@@ -7,14 +7,14 @@ ghost use Rattle.std.specs.Cmp.Lexicographic.{pointwise, lists_per};
 use crate::interval::Interval;
 use crate::set::IntervalSet;
 use errors::denial::Denial;
+use fixed_vec::fixed_vec::FixedVec;
 
 impl IntervalSet {
     pub fn new() -> IntervalSet
         ensures empty { intervals result ≡ [] }
     {
         IntervalSet {
-            places: [Interval { a: 0, b: 0 }; 130],
-            len: 0,
+            intervals: FixedVec::new(),
         }
     }
 
@@ -22,11 +22,7 @@ impl IntervalSet {
     pub fn get_min(&self) -> Option<i32>
         ensures { Smallest self.now result }
     {
-        if self.len == 0 {
-            None
-        } else {
-            Some(self.places[0].a)
-        }
+        self.intervals.first().map(|i| i.a)
     }
 
     pub fn add_one(&mut self, v: i32) -> Result<(), Denial>
@@ -64,15 +60,14 @@ impl IntervalSet {
     {
         let mut out = IntervalSet::new();
         let mut joined = added;
-        for k in 0..self.len {
-            let i = self.places[k];
+        for i in self.intervals() {
             if i.b + 1 < joined.a {
-                out.append(i);
+                out.append(*i);
             } else if joined.b + 1 < i.a {
                 out.append(joined);
-                joined = i;
+                joined = *i;
             } else {
-                joined = joined.union(i);
+                joined = joined.union(*i);
             }
         }
         out.append(joined);
@@ -84,15 +79,15 @@ impl IntervalSet {
         requires { rising (intervals self.old ++ (i ∷ [])) ≡ true }
         ensures { intervals self.new ≡ intervals self.old ++ (i ∷ []) }
     {
-        self.places[self.len] = i;
-        self.len += 1;
+        // a rising list always leaves room
+        let _ = self.intervals.push(i);
     }
 
     pub fn add_set(&mut self, other: &IntervalSet)
         ensures { (x : ℤ) → holds self.new x ≡ (holds self.old x || holds other.now x) }
     {
-        for k in 0..other.len {
-            self.merge(other.places[k]);
+        for i in other.intervals() {
+            self.merge(*i);
         }
     }
 
@@ -109,8 +104,8 @@ impl IntervalSet {
     pub fn subtract(&mut self, right: &IntervalSet)
         ensures { (x : ℤ) → holds self.new x ≡ (holds self.old x && not (holds right.now x)) }
     {
-        for k in 0..right.len {
-            self.remove_interval(right.places[k]);
+        for i in right.intervals() {
+            self.remove_interval(*i);
         }
     }
 
@@ -122,8 +117,7 @@ impl IntervalSet {
             return;
         }
         let mut out = IntervalSet::new();
-        for k in 0..self.len {
-            let i = self.places[k];
+        for i in self.intervals() {
             if i.a < removed.a {
                 out.append(i.below(removed));
             }
@@ -143,22 +137,16 @@ impl IntervalSet {
     pub fn contains(&self, item: i32) -> bool
         ensures { result ≡ holds self.now item }
     {
-        for k in 0..self.len {
-            let i = self.places[k];
-            if i.a <= item && item <= i.b {
-                return true;
-            }
-        }
-        false
+        self.intervals().iter().any(|i| i.contains(item))
     }
 
     // How many numbers the set holds.
     pub fn length(&self) -> usize
         ensures { result ≡ how_many 258 (holds self.now) }
     {
+        // kept as a loop: that the sum has a bound is known of a rising list alone
         let mut n = 0;
-        for k in 0..self.len {
-            let i = self.places[k];
+        for i in self.intervals() {
             n += (i.b - i.a + 1) as usize;
         }
         n
@@ -168,10 +156,11 @@ impl IntervalSet {
     pub fn intervals(&self) -> &[Interval]
         ensures { result.now ≡ intervals self.now }
     {
-        &self.places[0..self.len]
+        self.intervals.as_slice()
     }
 }
 
+// Kept an impl of our own: a derived one would compare the places past the intervals too.
 impl PartialEq for IntervalSet {
     ghost eq = { λ s t. pointwise same_ends (intervals s) (intervals t) };
 
@@ -181,14 +170,6 @@ impl PartialEq for IntervalSet {
         ensures answers { result ≡ pointwise same_ends (intervals self.now) (intervals other.now) }
         ensures equal { Equal self.now other.now result }
     {
-        if self.len != other.len {
-            return false;
-        }
-        for k in 0..self.len {
-            if self.places[k].a != other.places[k].a || self.places[k].b != other.places[k].b {
-                return false;
-            }
-        }
-        true
+        self.intervals() == other.intervals()
     }
 }

@@ -7,9 +7,10 @@ use Rattle.atn.specs.declared.atn.Atn.{Atn}
 use Rattle.atn.specs.Checked.{net_of}
 use Rattle.atn.specs.Reach.{Null}
 use Rattle.atn.proofs.Decompose.{Visited, walk_over, visited_of_walk, walk_of_reaches}
-use Rattle.ll1_analyzer.specs.Sets.{eof, epsilon, TakesAt, EndsWith, Within, InContext, Joined, Expected}
+use Rattle.ll1_analyzer.specs.Sets.{eof, epsilon, EndsWith, Within, InContext, Joined, Expected}
+use Rattle.atn.specs.Labels.{TakesAt}
 use Rattle.ll1_analyzer.specs.Answers.{Answers}
-use Rattle.ll1_analyzer.proofs.Taking.{decides_like}
+use Rattle.ll1_analyzer.proofs.Within.{decides_like}
 use Rattle.ll1_analyzer.proofs.Ends.{AllNull, ends_of_reached, reached_of_ends, nulls_of_walk, null_of_stop, stop_of_null}
 use Rattle.ll1_analyzer.proofs.Labels.{takes_some}
 

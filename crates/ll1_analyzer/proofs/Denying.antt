@@ -1,14 +1,22 @@
 -- Which questions about sets are denied.
-use Rattle.std.proofs.Common.{◌≡◌, ℕ, ◌<◌, ◌≤◌, Bool, true, false, List, Option, Some, None, sym, refl, ap, ◌∙◌, inl, inr, arith}
+use Rattle.std.proofs.Common.{◌≡◌, ℕ, ◌<◌, ◌≤◌, Bool, true, false, List, ℤ, Option, Some, None, Result, Ok, Err, IsErrAnd, sym, refl, ap, ◌∙◌, subst, inl, inr, arith}
 use Rattle.std.specs.Prelude.{is_some, nat_lt, if◌then◌else◌}
-use Rattle.std.proofs.lemmas.Bool.{ltb-true, ltb-false}
+use Rattle.std.proofs.lemmas.Bool.{ltb-false}
 use Rattle.errors.specs.declared.denial.Denial.{Denial}
 use Rattle.errors.specs.declared.denial.Denial.TheVariants.{FaultyChain, StateOutside}
 use Rattle.errors.specs.Denials.{denial_number, First}
+use Rattle.errors.proofs.Firsts.{denies}
+use Rattle.interval_set.specs.declared.set.IntervalSet.{IntervalSet}
 use Rattle.atn_graph.specs.declared.atn_state.StateKind.{StateKind}
 use Rattle.atn_graph.specs.Net.{Net, size, state_at}
 use Rattle.atn.specs.Checked.{kind_of}
+use Rattle.ll1_analyzer.specs.Answers.{Answers}
 use Rattle.ll1_analyzer.specs.Chains.{StateFault, ChainFault, Fault}
+
+-- a denial that is handed on
+pub answers_denied : (fault : Denial → Type 0) (P : ℤ → Type 0) (r : Result IntervalSet Denial) (d : Denial) → IsErrAnd r (λ e. e ≡ d) → First fault d → Answers fault P r
+answers_denied fault P (Ok set) d is w = absurd is
+answers_denied fault P (Err e) d is w = record { verdict = denies fault e (subst (First fault) (sym is) w); set = tt }
 
 -- a state has a kind exactly if it lies in the net
 kind_tells : (n : Net) (s : ℕ) (k : Option StateKind) → k ≡ kind_of n s → is_some k ≡ nat_lt s (size n)
@@ -20,9 +28,6 @@ kind_tells n s k is = ap is_some is ∙ at (nat_lt s (size n))
 
 pub kind_outside : (n : Net) (s : ℕ) (k : Option StateKind) → k ≡ kind_of n s → is_some k ≡ false → size n ≤ s
 kind_outside n s k is e = ltb-false s (size n) (sym (kind_tells n s k is) ∙ e)
-
-pub kind_inside : (n : Net) (s : ℕ) (k : Option StateKind) → k ≡ kind_of n s → is_some k ≡ true → s < size n
-kind_inside n s k is e = ltb-true s (size n) (sym (kind_tells n s k is) ∙ e)
 
 pub outside_first : (n : Net) (s : ℕ) → size n ≤ s → First (StateFault n s) StateOutside
 outside_first n s out = record { fits = out; none_before = before }

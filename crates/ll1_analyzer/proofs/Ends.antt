@@ -6,9 +6,10 @@ use Rattle.atn_graph.specs.Kinds.{is_stop}
 use Rattle.atn_graph.specs.Net.{Net, size, no_state}
 use Rattle.atn.specs.Walks.{Stop, Walk}
 use Rattle.atn.specs.Reach.{Null, Reaches}
-use Rattle.atn.proofs.Steps.{edge_state}
+use Rattle.atn.proofs.Some.{edge_state}
 use Rattle.atn.proofs.Decompose.{walk_over, visited_of_walk, walk_of_reaches}
-use Rattle.ll1_analyzer.specs.Sets.{TakesAt, EndsWith, EndsOnStop}
+use Rattle.ll1_analyzer.specs.Sets.{EndsWith, EndsOnStop}
+use Rattle.atn.specs.Labels.{TakesAt}
 
 pub ends_of_reached : {n : Net} {s k : ℕ} (x : ℤ) → Reaches n s k → TakesAt n k x → EndsWith n s [] x
 ends_of_reached {k = k} x r t = let w = walk_of_reaches r [] in record { state = k; pile = w.0; walk = w.1; takes = t }

@@ -9,8 +9,7 @@ use Rattle.interval_set.specs.Members.{holds}
 use Rattle.atn_graph.specs.Net.{Net}
 use Rattle.ll1_analyzer.specs.Sets.{eof, epsilon, Within, Joined, Recovery}
 use Rattle.ll1_analyzer.specs.Answers.{HoldsExactly}
-use Rattle.ll1_analyzer.proofs.Taking.{decides_like}
-use Rattle.ll1_analyzer.proofs.Within.{one}
+use Rattle.ll1_analyzer.proofs.Within.{decides_like, one}
 
 -- EPSILON is taken out of a set
 abbrev pub TakenOut : IntervalSet → IntervalSet → Type 0

@@ -9,13 +9,14 @@ use Rattle.interval_set.proofs.Rising.{between}
 use Rattle.atn_graph.specs.declared.transition.TransitionKind.{TransitionKind}
 use Rattle.atn_graph.specs.declared.transition.TransitionKind.TheVariants.{Epsilon, Range, Rule, Predicate, Atom, Action, Set, NotSet, Wildcard, Precedence}
 use Rattle.atn_graph.specs.Net.{Net, edge_at}
-use Rattle.atn_graph.specs.Rules.{eof_only, range_fits, interval_fits, all_fit, part}
-use Rattle.atn_graph.proofs.Inside.{LabelFits, label_fits, edge_inside}
+use Rattle.atn_graph.specs.Rules.{eof_only, range_fits, interval_fits, all_fit, part, LabelFits}
+use Rattle.atn_graph.proofs.Inside.{label_fits, edge_inside}
 use Rattle.atn.specs.declared.atn.Atn.{Atn}
 use Rattle.atn.specs.Checked.{net_of}
 use Rattle.atn.specs.Labels.{takes}
-use Rattle.atn.proofs.Steps.{edge_state}
-use Rattle.ll1_analyzer.specs.Sets.{epsilon, TakesAt}
+use Rattle.atn.proofs.Some.{edge_state}
+use Rattle.ll1_analyzer.specs.Sets.{epsilon}
+use Rattle.atn.specs.Labels.{TakesAt}
 
 -- an interval that fits the net begins at EOF or later
 interval_none : (n : Net) (i : Interval) → interval_fits n i ≡ true → inside i epsilon ≡ true → ⊥

@@ -1,4 +1,3 @@
-pub mod Taking
 pub mod Ends
 pub mod Within
 pub mod Keeping

@@ -10,10 +10,14 @@ use Rattle.interval_set.proofs.Rising.{between, inside_from}
 use Rattle.atn_graph.specs.Net.{Net, size}
 use Rattle.atn.specs.Reach.{Null, KnowsReachedOver}
 use Rattle.atn.proofs.Growth.{elem_at, place_of}
-use Rattle.ll1_analyzer.specs.Sets.{epsilon, TakesAt, EndsWith, Within}
+use Rattle.ll1_analyzer.specs.Sets.{epsilon, EndsWith, Within}
+use Rattle.atn.specs.Labels.{TakesAt}
 use Rattle.ll1_analyzer.specs.Answers.{HoldsExactly}
-use Rattle.ll1_analyzer.proofs.Taking.{decides_like}
 use Rattle.ll1_analyzer.proofs.Ends.{ends_of_reached, reached_of_ends, null_of_stop, stop_of_null, takes_inside, null_inside}
+
+-- a test that decides a fact decides what is as much as that
+pub decides_like : {P Q : Type 0} (b : Bool) → (P → Q) → (Q → P) → Decides b P → Decides b Q
+decides_like b to from d = (λ e. to (d.0 e), λ q. d.1 (from q))
 
 -- one of the first states of the list takes x
 pub record TakenBefore (n : Net) (xs : List ℕ) (upto : ℕ) (x : ℤ) : Type 0 where

@@ -6,8 +6,7 @@ use Rattle.atn_graph.specs.declared.transition.Move.{Move}
 use Rattle.atn_graph.specs.declared.transition.Move.TheVariants.{Along, Call, Token}
 use Rattle.atn_graph.specs.declared.transition.Transition.{Transition}
 use Rattle.atn_graph.specs.Kinds.{move_of}
-use Rattle.atn_graph.specs.Net.{Net, size}
-use Rattle.atn.specs.Checked.{edges_of}
+use Rattle.atn_graph.specs.Net.{Net, size, edges_of}
 
 -- the follow state of a move, if the move is a call
 abbrev pub called_follow : Move → Option ℕ

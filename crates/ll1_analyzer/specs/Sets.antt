@@ -1,8 +1,8 @@
 -- The four sets of token types that may come next.
-use Rattle.std.specs.Prelude.{◌≡◌, ◌≢◌, ℕ, true, ◌⊎◌, List, [], ◌∷◌, ℤ, negsuc, Contains}
-use Rattle.atn_graph.specs.Net.{Net, Of, edge_at}
+use Rattle.std.specs.Prelude.{◌≡◌, ◌≢◌, ℕ, ◌⊎◌, List, [], ◌∷◌, ℤ, negsuc, Contains}
+use Rattle.atn_graph.specs.Net.{Net}
 use Rattle.atn.specs.Walks.{Stop, Walk}
-use Rattle.atn.specs.Labels.{takes}
+use Rattle.atn.specs.Labels.{TakesAt}
 
 -- the end of the input, and what stands for the end of a walk on a stop state
 abbrev pub eof : ℤ
@@ -10,12 +10,6 @@ eof = negsuc 0
 
 abbrev pub epsilon : ℤ
 epsilon = negsuc 1
-
--- one of the edges of state s takes the type x
-pub record TakesAt (n : Net) (s : ℕ) (x : ℤ) : Type 0 where
-  pub edge : ℕ
-  pub of : Of n s edge
-  pub takes : takes n (edge_at n edge).kind x ≡ true
 
 -- A walk from s on the pile p comes to a state that takes the type x.
 pub record EndsWith (n : Net) (s : ℕ) (p : List ℕ) (x : ℤ) : Type 0 where

@@ -2,14 +2,13 @@
 ghost use Rattle.std.specs.Prelude.{◌≡◌, ◌≢◌, ℕ, ◌%◌, length, Some, None, slice_index_or};
 ghost use Rattle.atn.specs.Checked.{net_of};
 ghost use Rattle.ll1_analyzer.specs.declared.slot.Slot.{Slot};
-ghost use Rattle.ll1_analyzer.specs.Answers.{HoldsExactly};
+ghost use Rattle.ll1_analyzer.specs.Answers.{HoldsExactly, Keeps};
 ghost use Rattle.ll1_analyzer.specs.Kept.{SlotsWithin};
 ghost use Rattle.ll1_analyzer.specs.Sets.{Within};
 
 use crate::lookahead::Lookahead;
 use crate::slot::Slot;
-use atn_graph::atn_state::StateKind;
-use atn_graph::transition::Transition;
+use atn::atn::Atn;
 use interval_set::set::IntervalSet;
 
 // Keeps up to 16 of the sets that the lookahead below has answered, each in the slot of its state.
@@ -37,38 +36,24 @@ impl<L: Lookahead> Lookahead for Cache<L> {
 
     ghost agrees = { λ c. L.agrees c.below × SlotsWithin (net_of (L.atn c.below)) c.slots };
 
-    fn kind(&self, s: usize) -> Option<StateKind> {
-        self.below.kind(s)
-    }
-
-    fn rule(&self, s: usize) -> usize {
-        self.below.rule(s)
-    }
-
-    fn edges(&self, s: usize) -> &[Transition] {
-        self.below.edges(s)
-    }
-
-    fn start(&self, r: usize) -> Option<usize> {
-        self.below.start(r)
+    fn atn(&self) -> &Atn {
+        self.below.atn()
     }
 
     // A set that its slot has is answered from there, and nothing is asked below; else the answer from
     // below takes the slot.
     fn within(&mut self, s: usize) -> IntervalSet
-        ensures keeps_net { L.atn self.new.below ≡ L.atn self.old.below }
-        ensures keeps_agreement { ⟦<Cache<L> as Lookahead>⟧.agrees self.old → ⟦<Cache<L> as Lookahead>⟧.agrees self.new }
+        ensures keeps { Keeps ⟦<Cache<L> as Lookahead>⟧.atn ⟦<Cache<L> as Lookahead>⟧.agrees self.old self.new }
         ensures answers { ⟦<Cache<L> as Lookahead>⟧.agrees self.old → HoldsExactly result (Within (net_of (L.atn self.old.below)) s) }
         ensures hit { (slot : Slot) → slice_index_or self.old.slots (s % 16) None ≡ Some slot → slot.state ≡ s → (result ≡ slot.set) × (self.new ≡ self.old) }
         ensures keeps_answer { slice_index_or self.new.slots (s % 16) None ≡ Some (record { state = s; set = result }) }
         ensures keeps_other_slots { (i : ℕ) → i ≢ s % 16 → slice_index_or self.new.slots i None ≡ slice_index_or self.old.slots i None }
     {
         let i = s % 16;
-        let kept = self.slots[i];
-        if let Some(slot) = kept {
-            if slot.state == s {
-                return slot.set;
-            }
+        if let Some(slot) = self.slots[i]
+            && slot.state == s
+        {
+            return slot.set;
         }
         let set = self.below.within(s);
         self.slots[i] = Some(Slot { state: s, set });

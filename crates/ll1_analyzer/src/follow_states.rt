@@ -1,11 +1,5 @@
 // The follow states of the open rules, innermost first.
-ghost use Rattle.std.specs.Prelude.{◌≡◌, ◌≤◌, length};
+use fixed_vec::fixed_vec::FixedVec;
 
-// The first len places are the follow states.
-#[derive(Clone, Copy)]
-pub struct FollowStates {
-    pub(crate) places: [usize; 63],
-    pub(crate) len: usize,
-    ghost all: { length places ≡ 63 },
-    ghost few: { len ≤ 63 },
-}
+// A chain holds at most 63 states, and each has one follow state.
+pub type FollowStates = FixedVec<usize, 63>;

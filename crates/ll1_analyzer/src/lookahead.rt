@@ -1,11 +1,12 @@
 // What is asked of a net while a parser runs.
 ghost use Rattle.std.specs.Prelude.{◌≡◌};
-ghost use Rattle.atn_graph.specs.Net.{state_at};
 ghost use Rattle.atn.specs.declared.atn.Atn.{Atn};
-ghost use Rattle.atn.specs.Checked.{net_of, kind_of, edges_of, start_of};
-ghost use Rattle.ll1_analyzer.specs.Answers.{HoldsExactly};
+ghost use Rattle.atn.specs.Checked.{net_of, kind_of, start_of};
+ghost use Rattle.atn_graph.specs.Net.{state_at, edges_of};
+ghost use Rattle.ll1_analyzer.specs.Answers.{HoldsExactly, Keeps};
 ghost use Rattle.ll1_analyzer.specs.Sets.{Within};
 
+use atn::atn::Atn;
 use atn_graph::atn_state::StateKind;
 use atn_graph::transition::Transition;
 use interval_set::set::IntervalSet;
@@ -15,29 +16,45 @@ pub const EOF: i32 = -1;
 
 pub const EPSILON: i32 = -2;
 
-// A lookahead speaks of a checked net. If what it keeps agrees with that net, it answers as the net
-// is. A state outside the net has no kind, rule 0, no edges and the empty set; a rule past the last has
-// no start. No question changes the net, or makes what is kept disagree.
+// A lookahead speaks of a checked net, and answers from it. A state outside the net has no kind, rule 0
+// and no edges; a rule past the last has no start. If what it keeps agrees with the net, its sets are
+// those of the net, and empty outside it. No question changes the net, or makes what is kept disagree.
 pub trait Lookahead {
     ghost atn: { Self → Atn };
 
     ghost agrees: { Self → Type 0 };
 
-    fn kind(&self, s: usize) -> Option<StateKind>
-        ensures { agrees self.now → result ≡ kind_of (net_of (atn self.now)) s };
-
-    fn rule(&self, s: usize) -> usize
-        ensures { agrees self.now → result ≡ (state_at (net_of (atn self.now)) s).rule };
-
-    fn edges(&self, s: usize) -> &[Transition]
-        ensures { agrees self.now → result.now ≡ edges_of (net_of (atn self.now)) s };
-
-    fn start(&self, r: usize) -> Option<usize>
-        ensures { agrees self.now → result ≡ start_of (net_of (atn self.now)) r };
+    // The net that it speaks of.
+    fn atn(&self) -> &Atn
+        ensures { result.now ≡ atn self.now };
 
     // The within-rule set of s.
     fn within(&mut self, s: usize) -> IntervalSet
-        ensures keeps_net { atn self.new ≡ atn self.old }
-        ensures keeps_agreement { agrees self.old → agrees self.new }
+        ensures keeps { Keeps atn agrees self.old self.new }
         ensures answers { agrees self.old → HoldsExactly result (Within (net_of (atn self.old)) s) };
+
+    fn kind(&self, s: usize) -> Option<StateKind>
+        ensures { result ≡ kind_of (net_of (atn self.now)) s }
+    {
+        self.atn().state_kind(s)
+    }
+
+    // Kept a plain number, 0 past the last state: the question has always an answer.
+    fn rule(&self, s: usize) -> usize
+        ensures { result ≡ (state_at (net_of (atn self.now)) s).rule }
+    {
+        self.atn().state_rule(s)
+    }
+
+    fn edges(&self, s: usize) -> &[Transition]
+        ensures { result.now ≡ edges_of (net_of (atn self.now)) s }
+    {
+        self.atn().edges(s)
+    }
+
+    fn start(&self, r: usize) -> Option<usize>
+        ensures { result ≡ start_of (net_of (atn self.now)) r }
+    {
+        self.atn().rule_start(r)
+    }
 }

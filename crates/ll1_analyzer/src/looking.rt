@@ -1,34 +1,16 @@
 // Walks from a state, for the types that they can end with.
-ghost use Rattle.std.specs.Prelude.{◌≡◌, true, ℤ, ◌⊎◌, Decides};
-ghost use Rattle.interval_set.specs.Members.{holds};
-ghost use Rattle.atn_graph.specs.Net.{state_at};
+ghost use Rattle.std.specs.Prelude.{◌≡◌};
 ghost use Rattle.atn.specs.Checked.{net_of};
 ghost use Rattle.atn.specs.Found.{found};
 ghost use Rattle.atn.specs.Reach.{KnowsNull};
-ghost use Rattle.ll1_analyzer.specs.Answers.{HoldsExactly};
-ghost use Rattle.ll1_analyzer.specs.Sets.{TakesAt, Within};
+ghost use Rattle.ll1_analyzer.specs.Answers.{HoldsExactly, Keeps};
+ghost use Rattle.ll1_analyzer.specs.Sets.{Within};
 
 use crate::analyzer::LL1Analyzer;
 use crate::lookahead::{EPSILON, Lookahead};
 use atn::atn::Atn;
-use atn::nulls::nullable;
-use atn::reach::reach;
-use atn_graph::atn_state::StateKind;
-use atn_graph::transition::Transition;
+use atn::nulls::NullStates;
 use interval_set::set::IntervalSet;
-
-// Adds the types that the edges of state s take.
-fn add_labels(atn: &Atn, s: usize, set: &mut IntervalSet)
-    ensures { (x : ℤ) → Decides (holds set.new x) ((holds set.old x ≡ true) ⊎ TakesAt (net_of atn.now) s x) }
-{
-    if let Some(state) = atn.state(s) {
-        for j in state.first..state.end {
-            if let Some(label) = atn.label(j) {
-                set.add_set(&label);
-            }
-        }
-    }
-}
 
 impl<'a> LL1Analyzer<'a> {
     pub fn new(atn: &'a Atn) -> LL1Analyzer<'a>
@@ -37,18 +19,19 @@ impl<'a> LL1Analyzer<'a> {
     {
         LL1Analyzer {
             atn,
-            nulls: nullable(&atn.graph),
+            nulls: NullStates::of(&atn.graph),
         }
     }
 
-    // The within-rule set of s: the types at the states that it reaches, and EPSILON if it is null.
+    // The within-rule set of s: the types at the states that it reaches, and EPSILON if it is null. That
+    // the null states are right is kept a premise: a ghost field would not give the walks that show it.
     pub fn look(&self, s: usize) -> IntervalSet
-        ensures { KnowsNull (net_of self.now.atn.now) (found self.now.nulls) → HoldsExactly result (Within (net_of self.now.atn.now) s) }
+        ensures { KnowsNull (net_of self.now.atn.now) (found self.now.nulls.states) → HoldsExactly result (Within (net_of self.now.atn.now) s) }
     {
         let mut set = IntervalSet::new();
-        let reached = reach(&self.atn.graph, &self.nulls, s);
+        let reached = self.nulls.reach(s);
         for k in reached.states() {
-            add_labels(self.atn, *k, &mut set);
+            self.atn.add_labels(*k, &mut set);
         }
         if self.nulls.has(s) {
             // it is one of the numbers of sets, so it is not denied
@@ -61,27 +44,14 @@ impl<'a> LL1Analyzer<'a> {
 impl<'a> Lookahead for LL1Analyzer<'a> {
     ghost atn = { λ w. w.atn.now };
 
-    ghost agrees = { λ w. KnowsNull (net_of w.atn.now) (found w.nulls) };
+    ghost agrees = { λ w. KnowsNull (net_of w.atn.now) (found w.nulls.states) };
 
-    fn kind(&self, s: usize) -> Option<StateKind> {
-        self.atn.state_kind(s)
-    }
-
-    fn rule(&self, s: usize) -> usize {
-        self.atn.state_rule(s)
-    }
-
-    fn edges(&self, s: usize) -> &[Transition] {
-        self.atn.edges(s)
-    }
-
-    fn start(&self, r: usize) -> Option<usize> {
-        self.atn.rule_start(r)
+    fn atn(&self) -> &Atn {
+        self.atn
     }
 
     fn within(&mut self, s: usize) -> IntervalSet
-        ensures keeps_net { self.new.atn.now ≡ self.old.atn.now }
-        ensures keeps_agreement { ⟦<LL1Analyzer<'a> as Lookahead>⟧.agrees self.old → ⟦<LL1Analyzer<'a> as Lookahead>⟧.agrees self.new }
+        ensures keeps { Keeps ⟦<LL1Analyzer<'a> as Lookahead>⟧.atn ⟦<LL1Analyzer<'a> as Lookahead>⟧.agrees self.old self.new }
         ensures answers { ⟦<LL1Analyzer<'a> as Lookahead>⟧.agrees self.old → HoldsExactly result (Within (net_of self.old.atn.now) s) }
         ensures alters_nothing { self.new ≡ self.old }
     {

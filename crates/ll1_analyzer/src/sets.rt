@@ -1,7 +1,7 @@
 // The four sets of token types that may come next, over any lookahead.
 ghost use Rattle.std.specs.Prelude.{◌≡◌, ◌∷◌, OnErr};
 ghost use Rattle.atn.specs.Checked.{net_of};
-ghost use Rattle.ll1_analyzer.specs.Answers.{Answers, HoldsExactly};
+ghost use Rattle.ll1_analyzer.specs.Answers.{Answers, HoldsExactly, Keeps};
 ghost use Rattle.ll1_analyzer.specs.Chains.{follow_states, StateFault, ChainFault, Fault};
 ghost use Rattle.ll1_analyzer.specs.Sets.{Within, InContext, Joined, Expected, Recovery};
 
@@ -12,22 +12,18 @@ use interval_set::set::IntervalSet;
 
 // The within-rule set of s.
 pub fn next_tokens<L: Lookahead>(l: &mut L, s: usize) -> Result<IntervalSet, Denial>
-    ensures keeps_net { L.atn l.new ≡ L.atn l.old }
-    ensures keeps_agreement { L.agrees l.old → L.agrees l.new }
+    ensures keeps { Keeps L.atn L.agrees l.old l.new }
     ensures denied_alters_nothing { OnErr result (l.new ≡ l.old) }
     ensures answers { L.agrees l.old → let n = net_of (L.atn l.old) in Answers (StateFault n s) (Within n s) result }
 {
-    if l.kind(s).is_none() {
-        return Err(Denial::StateOutside);
-    }
+    l.kind(s).ok_or(Denial::StateOutside)?;
     Ok(l.within(s))
 }
 
 // The within-rule sets of s and of the follow states in their order, as far as each holds EPSILON; EOF
 // if the last of all holds it.
 fn join<L: Lookahead>(l: &mut L, s: usize, follows: &[usize]) -> IntervalSet
-    ensures keeps_net { L.atn l.new ≡ L.atn l.old }
-    ensures keeps_agreement { L.agrees l.old → L.agrees l.new }
+    ensures keeps { Keeps L.atn L.agrees l.old l.new }
     ensures joins { L.agrees l.old → HoldsExactly result (Joined (net_of (L.atn l.old)) (s ∷ follows.now)) }
 {
     let mut set = l.within(s);
@@ -52,17 +48,14 @@ pub fn get_expected_tokens<L: Lookahead>(
     s: usize,
     chain: &[usize],
 ) -> Result<IntervalSet, Denial>
-    ensures keeps_net { L.atn l.new ≡ L.atn l.old }
-    ensures keeps_agreement { L.agrees l.old → L.agrees l.new }
+    ensures keeps { Keeps L.atn L.agrees l.old l.new }
     ensures denied_alters_nothing { OnErr result (l.new ≡ l.old) }
     ensures answers { L.agrees l.old → let n = net_of (L.atn l.old) in
         Answers (Fault n s chain.now) (Expected n s (follow_states n chain.now)) result }
 {
     let follows = follow_list(l, chain)?;
-    if l.kind(s).is_none() {
-        return Err(Denial::StateOutside);
-    }
-    Ok(join(l, s, follows.states()))
+    l.kind(s).ok_or(Denial::StateOutside)?;
+    Ok(join(l, s, follows.as_slice()))
 }
 
 // The in-context set of s: walks that begin with the follow states piled end with the types that the
@@ -72,8 +65,7 @@ pub fn next_tokens_in_ctx<L: Lookahead>(
     s: usize,
     chain: &[usize],
 ) -> Result<IntervalSet, Denial>
-    ensures keeps_net { L.atn l.new ≡ L.atn l.old }
-    ensures keeps_agreement { L.agrees l.old → L.agrees l.new }
+    ensures keeps { Keeps L.atn L.agrees l.old l.new }
     ensures denied_alters_nothing { OnErr result (l.new ≡ l.old) }
     ensures answers { L.agrees l.old → let n = net_of (L.atn l.old) in
         Answers (Fault n s chain.now) (InContext n s (follow_states n chain.now)) result }
@@ -86,15 +78,14 @@ pub fn get_error_recovery_set<L: Lookahead>(
     l: &mut L,
     chain: &[usize],
 ) -> Result<IntervalSet, Denial>
-    ensures keeps_net { L.atn l.new ≡ L.atn l.old }
-    ensures keeps_agreement { L.agrees l.old → L.agrees l.new }
+    ensures keeps { Keeps L.atn L.agrees l.old l.new }
     ensures denied_alters_nothing { OnErr result (l.new ≡ l.old) }
     ensures answers { L.agrees l.old → let n = net_of (L.atn l.old) in
         Answers (ChainFault n chain.now) (Recovery n (follow_states n chain.now)) result }
 {
     let follows = follow_list(l, chain)?;
     let mut set = IntervalSet::new();
-    for f in follows.states() {
+    for f in follows.as_slice() {
         set.add_set(&l.within(*f));
     }
     set.remove_one(EPSILON);

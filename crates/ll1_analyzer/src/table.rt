@@ -1,15 +1,13 @@
 // The table of all within-rule sets.
 ghost use Rattle.std.specs.Prelude.{◌≡◌, IfOk};
 ghost use Rattle.ll1_analyzer.specs.Kept.{AreWithin};
-ghost use Rattle.ll1_analyzer.specs.Answers.{HoldsExactly};
+ghost use Rattle.ll1_analyzer.specs.Answers.{HoldsExactly, Keeps};
 ghost use Rattle.ll1_analyzer.specs.Sets.{Within};
 ghost use Rattle.atn.specs.Checked.{net_of};
 
 use crate::analyzer::LL1Analyzer;
 use crate::lookahead::Lookahead;
 use atn::atn::Atn;
-use atn_graph::atn_state::StateKind;
-use atn_graph::transition::Transition;
 use interval_set::set::IntervalSet;
 use std::alloc::{AllocError, Global};
 
@@ -28,6 +26,7 @@ impl<'a> Table<'a> {
     {
         let analyzer = LL1Analyzer::new(atn);
         let mut sets = Vec::new(alloc);
+        // kept as a loop: what `look` promises does not come through a `map` in the proof
         for s in 0..atn.state_count() {
             sets.push(analyzer.look(s))?;
         }
@@ -40,31 +39,15 @@ impl<'a> Lookahead for Table<'a> {
 
     ghost agrees = { λ t. AreWithin (net_of t.atn.now) t.sets.items };
 
-    fn kind(&self, s: usize) -> Option<StateKind> {
-        self.atn.state_kind(s)
-    }
-
-    fn rule(&self, s: usize) -> usize {
-        self.atn.state_rule(s)
-    }
-
-    fn edges(&self, s: usize) -> &[Transition] {
-        self.atn.edges(s)
-    }
-
-    fn start(&self, r: usize) -> Option<usize> {
-        self.atn.rule_start(r)
+    fn atn(&self) -> &Atn {
+        self.atn
     }
 
     fn within(&mut self, s: usize) -> IntervalSet
-        ensures keeps_net { self.new.atn.now ≡ self.old.atn.now }
-        ensures keeps_agreement { ⟦<Table<'a> as Lookahead>⟧.agrees self.old → ⟦<Table<'a> as Lookahead>⟧.agrees self.new }
+        ensures keeps { Keeps ⟦<Table<'a> as Lookahead>⟧.atn ⟦<Table<'a> as Lookahead>⟧.agrees self.old self.new }
         ensures answers { ⟦<Table<'a> as Lookahead>⟧.agrees self.old → HoldsExactly result (Within (net_of self.old.atn.now) s) }
         ensures alters_nothing { self.new ≡ self.old }
     {
-        match self.sets.get(s) {
-            Some(set) => *set,
-            None => IntervalSet::new(),
-        }
+        self.sets.get(s).copied().unwrap_or_else(IntervalSet::new)
     }
 }

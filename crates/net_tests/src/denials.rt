@@ -14,7 +14,7 @@ fn a_short_table(rt: HostRuntime) {
             edges: &[],
             intervals: &[],
         }),
-        1
+        Err(1)
     );
 }
 
@@ -29,7 +29,7 @@ fn counts_outside_their_limits(rt: HostRuntime) {
             edges: &[],
             intervals: &[],
         }),
-        2
+        Err(2)
     );
 }
 
@@ -45,7 +45,7 @@ fn a_largest_type_outside_its_limits(rt: HostRuntime) {
                 edges: &[edge(1, 1, 0, 0)],
                 intervals: &[],
             }),
-            2
+            Err(2)
         );
     }
 }
@@ -53,7 +53,7 @@ fn a_largest_type_outside_its_limits(rt: HostRuntime) {
 // The smallest net is accepted with one edge to its stop state, and denied with that edge damaged.
 #[test]
 fn a_broken_rule(rt: HostRuntime) {
-    assert_eq!(rt; two_states(edge(1, 1, 0, 0), &[]), 0);
+    assert_eq!(rt; two_states(edge(1, 1, 0, 0), &[]), Ok(()));
     for bad in [
         edge(0, 1, 0, 0),
         edge(11, 1, 0, 0),
@@ -69,32 +69,32 @@ fn a_broken_rule(rt: HostRuntime) {
         edge(3, 0, 0, 2),
         edge(3, 0, 1, 1),
     ] {
-        assert_eq!(rt; two_states(bad, &[]), 3);
+        assert_eq!(rt; two_states(bad, &[]), Err(3));
     }
 }
 
 #[test]
 fn a_broken_set(rt: HostRuntime) {
     let fine = [Interval { a: -1, b: -1 }];
-    assert_eq!(rt; two_states(edge(7, 1, 0, 1), &fine), 0);
-    assert_eq!(rt; two_states(edge(8, 1, 0, 1), &fine), 0);
-    assert_eq!(rt; two_states(edge(7, 1, 0, 0), &fine), 3);
-    assert_eq!(rt; two_states(edge(7, 1, 1, 1), &fine), 3);
-    assert_eq!(rt; two_states(edge(8, 1, 0, 2), &fine), 3);
-    assert_eq!(rt; two_states(edge(8, 1, -1, 1), &fine), 3);
+    assert_eq!(rt; two_states(edge(7, 1, 0, 1), &fine), Ok(()));
+    assert_eq!(rt; two_states(edge(8, 1, 0, 1), &fine), Ok(()));
+    assert_eq!(rt; two_states(edge(7, 1, 0, 0), &fine), Err(3));
+    assert_eq!(rt; two_states(edge(7, 1, 1, 1), &fine), Err(3));
+    assert_eq!(rt; two_states(edge(8, 1, 0, 2), &fine), Err(3));
+    assert_eq!(rt; two_states(edge(8, 1, -1, 1), &fine), Err(3));
     for i in [
         Interval { a: -1, b: 1 },
         Interval { a: 2, b: 1 },
         Interval { a: 1, b: 4 },
     ] {
-        assert_eq!(rt; two_states(edge(7, 1, 0, 1), &[i]), 3);
+        assert_eq!(rt; two_states(edge(7, 1, 0, 1), &[i]), Err(3));
     }
 }
 
 // A rule that calls itself first.
 #[test]
 fn a_left_recursive_rule(rt: HostRuntime) {
-    assert_eq!(rt; two_states(edge(3, 0, 0, 1), &[]), 4);
+    assert_eq!(rt; two_states(edge(3, 0, 0, 1), &[]), Err(4));
 }
 
 // Rule 0 calls rule 1, which can be empty, and then itself.
@@ -111,8 +111,8 @@ fn hidden_left_recursion(rt: HostRuntime) {
     let empty = [edge(3, 3, 1, 1), edge(3, 0, 0, 2), edge(1, 4, 0, 0)];
     let takes_one = [edge(3, 3, 1, 1), edge(3, 0, 0, 2), edge(5, 4, 1, 0)];
     let rows = counts(2, 5, 3, 0);
-    assert_eq!(rt; verdict_of(1, rows, &rules, &states, &empty), 4);
-    assert_eq!(rt; verdict_of(1, rows, &rules, &states, &takes_one), 0);
+    assert_eq!(rt; verdict_of(1, rows, &rules, &states, &empty), Err(4));
+    assert_eq!(rt; verdict_of(1, rows, &rules, &states, &takes_one), Ok(()));
 }
 
 // Of two faults the one with the lower number is answered.
@@ -123,18 +123,18 @@ fn the_first_of_two_faults(rt: HostRuntime) {
     let calls_itself = [edge(3, 0, 0, 1), edge(1, 1, 0, 0)];
     assert_eq!(rt;
         verdict_of(0, counts(1, 513, 2, 0), &rules, &states, &calls_itself),
-        1
+        Err(1)
     );
     assert_eq!(rt;
         verdict_of(0, counts(1, 2, 2, 0), &rules, &states, &calls_itself),
-        2
+        Err(2)
     );
     assert_eq!(rt;
         verdict_of(1, counts(1, 2, 2, 0), &rules, &states, &calls_itself),
-        3
+        Err(3)
     );
     assert_eq!(rt;
         verdict_of(1, counts(1, 2, 1, 0), &rules, &states, &calls_itself),
-        4
+        Err(4)
     );
 }

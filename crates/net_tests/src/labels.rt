@@ -7,9 +7,7 @@ use std::process::Abort;
 use std::test::Fail;
 
 fn has(rt: &impl Abort, net: &Atn, j: usize, types: &[i32]) -> Result<(), Fail> {
-    let Some(label) = net.label(j) else {
-        return Err(Fail::new("no such edge"));
-    };
+    let label = net.label(j).ok_or("no such edge")?;
     assert_eq!(rt; label.length(), types.len());
     for t in types {
         assert!(rt; label.contains(*t));

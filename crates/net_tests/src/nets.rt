@@ -1,6 +1,7 @@
 // Nets that the tests use.
 use atn::atn::Atn;
 use atn_graph::tables::{Counts, EdgeRow, RuleRow, StateRow, Tables};
+use errors::denial::Denial;
 use interval_set::interval::Interval;
 use std::test::Fail;
 
@@ -25,12 +26,9 @@ pub(crate) fn counts(rules: i32, states: i32, edges: i32, intervals: i32) -> Cou
     }
 }
 
-// The number of the denial, 0 for an accepted net.
-pub(crate) fn verdict(t: &Tables<'_>) -> u8 {
-    match Atn::check(t) {
-        Ok(_) => 0,
-        Err(denial) => denial.number(),
-    }
+// Whether the net is accepted; if not, the number of the denial.
+pub(crate) fn verdict(t: &Tables<'_>) -> Result<(), u8> {
+    Atn::check(t).map(drop).map_err(Denial::number)
 }
 
 pub(crate) fn verdict_of<'a>(
@@ -39,7 +37,7 @@ pub(crate) fn verdict_of<'a>(
     rules: &'a [RuleRow],
     states: &'a [StateRow],
     edges: &'a [EdgeRow],
-) -> u8 {
+) -> Result<(), u8> {
     verdict(&Tables {
         max_token_type,
         counts,
@@ -51,8 +49,8 @@ pub(crate) fn verdict_of<'a>(
 }
 
 // A net of one rule with two states, start and stop, and one edge between them.
-pub(crate) fn two_states(edge: EdgeRow, intervals: &[Interval]) -> u8 {
-    let n = if intervals.is_empty() { 0 } else { 1 };
+pub(crate) fn two_states(edge: EdgeRow, intervals: &[Interval]) -> Result<(), u8> {
+    let n = i32::from(!intervals.is_empty());
     verdict(&Tables {
         max_token_type: 3,
         counts: counts(1, 2, 1, n),
@@ -125,6 +123,6 @@ fn longer_tables_are_accepted(rt: HostRuntime) {
             edges: &[edge(5, 1, -1, 77), edge(0, 0, 0, 0)],
             intervals: &[Interval { a: 9, b: -9 }],
         }),
-        0
+        Ok(())
     );
 }

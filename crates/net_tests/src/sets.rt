@@ -1,15 +1,13 @@
 // Sets of numbers, on the inputs on which the crate that this is modelled on goes wrong, and at the limits.
 use errors::denial::Denial;
+use interval_set::interval::Interval;
 use interval_set::set::IntervalSet;
 use std::process::Abort;
 use std::test::Fail;
 
 // Whether the set is the numbers from low to high, in one interval.
 fn is_range(rt: &impl Abort, set: &IntervalSet, low: i32, high: i32) {
-    let intervals = set.intervals();
-    assert!(rt; intervals.len() == 1);
-    assert_eq!(rt; intervals[0].a, low);
-    assert_eq!(rt; intervals[0].b, high);
+    assert_eq!(rt; set.intervals(), [Interval { a: low, b: high }].as_slice());
 }
 
 fn with_ones(numbers: &[i32]) -> Result<IntervalSet, Denial> {
@@ -71,10 +69,8 @@ fn values_outside_are_denied(rt: HostRuntime) -> Result<(), Fail> {
 #[test]
 fn the_fullest_set(rt: HostRuntime) -> Result<(), Fail> {
     let mut set = IntervalSet::new();
-    let mut v: i32 = -2;
-    for _ in 0..129 {
-        set.add_one(v)?;
-        v = v.wrapping_add(2);
+    for i in 0..129u8 {
+        set.add_one(2 * i32::from(i) - 2)?;
     }
     assert_eq!(rt; set.intervals().len(), 129);
     assert_eq!(rt; set.length(), 129);

@@ -11,10 +11,7 @@ fn read_text(rt: &HostRuntime) -> anyhow::Result<String> {
     let Some(path) = env::args(rt)?.nth(1) else {
         return Ok(io::read_to_string(rt.alloc(), rt.stdin())?);
     };
-    match fs::read_to_string(rt, path.as_str()) {
-        Ok(text) => Ok(text),
-        Err(error) => Err(anyhow!(format!(in rt.alloc(); "{path}: {error}")?)),
-    }
+    fs::read_to_string(rt, path.as_str()).map_err(|error| anyhow!("{path}: {error}"))
 }
 
 fn run(rt: &HostRuntime) -> anyhow::Result<()> {

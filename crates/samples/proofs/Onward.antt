@@ -9,7 +9,8 @@ use Rattle.atn_graph.specs.Kinds.{move_of, is_stop}
 use Rattle.atn_graph.specs.Net.{Net, Of, state_at, edge_at}
 use Rattle.atn.specs.Walks.{Stop, HasEdge, Walk}
 use Rattle.atn.specs.Labels.{takes}
-use Rattle.ll1_analyzer.specs.Sets.{epsilon, TakesAt, Within}
+use Rattle.ll1_analyzer.specs.Sets.{epsilon, Within}
+use Rattle.atn.specs.Labels.{TakesAt}
 
 -- A walk ends with x at a state that takes it, and with EPSILON on a stop state with nothing left on the pile.
 abbrev pub Last : Net → ℤ → ℕ → List ℕ → Type 0

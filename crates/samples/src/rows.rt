@@ -1,4 +1,4 @@
-// The rows of the pass net.
+// The rows of the pass net, by macros, since a constant cannot call a function.
 use atn_graph::tables::{EdgeRow, RuleRow, StateRow};
 
 macro_rules! rule {

@@ -7,11 +7,7 @@ use std::test::Fail;
 
 fn has(rt: &impl Abort, s: usize, intervals: &[Interval]) -> Result<(), Fail> {
     let set = pass_next_tokens(s)?;
-    assert_eq!(rt; set.intervals().len(), intervals.len());
-    for (i, j) in set.intervals().iter().zip(intervals) {
-        assert_eq!(rt; i.a, j.a);
-        assert_eq!(rt; i.b, j.b);
-    }
+    assert_eq!(rt; set.intervals(), intervals);
     Ok(())
 }
 

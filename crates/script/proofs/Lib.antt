@@ -1,3 +1,4 @@
+pub mod Faults
 pub mod LinesTaken
 pub mod Said
 pub mod Words

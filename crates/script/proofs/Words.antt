@@ -1,11 +1,12 @@
 -- The first word of a line, by what `split_ascii_whitespace` cuts off it.
-use Rattle.std.proofs.Common.{◌+◌, get_or-append-add, length-append, ◌≡◌, ◌∙◌, ◌<◌, ◌≤◌, ◌++◌, [], ◌∷◌, ap, false, List, ℕ, Some, arith, get_or, inl, inr, length, refl, subst, sym, true, drop, true≢false}
+use Rattle.std.proofs.Common.{◌+◌, get_or-append-add, length-append, ◌≡◌, ◌∙◌, ◌<◌, ◌≤◌, ◌++◌, [], ◌∷◌, ap, false, List, ℕ, Some, arith, get_or, inl, inr, length, refl, subst, sym, true, drop}
 use Rattle.std.specs.Prelude.{All, slice_index}
 use Rattle.std.specs.Borrow.{Bor}
 use Rattle.std.specs.Char.{is_ascii_whitespace}
 use Rattle.std.specs.Str.{NoCharPasses}
 use Rattle.std.specs.Str.Iter.{IsAsciiSeparator, CutsAsciiWord}
-use Rattle.std.proofs.lemmas.Bool.{cases_lt}
+use Rattle.std.proofs.lemmas.Bool.{both_ways, cases_lt}
+use Rattle.std.proofs.lemmas.List.{get_or_append_left}
 use Rattle.std.proofs.lemmas.Str.{NoCharPasses-byte}
 use Rattle.std.proofs.lemmas.List.Elements.{All-from_get_or, All-tail}
 use Rattle.std.proofs.lemmas.Grind.{common_steps}
@@ -36,15 +37,11 @@ begins_with_cut line text rest x is h = record {
   ended = ends_word h.3.1 rest h.3.4;
 }
 
--- no byte is white space and is not
-both_kinds : (c : ℕ) → is_ascii_whitespace c ≡ true → is_ascii_whitespace c ≡ false → ⊥
-both_kinds c white not = true≢false (sym white ∙ not)
-
 -- two words, each up to white space or the end of the same text, are one
 same_word : (v r w s : List ℕ) → v ++ r ≡ w ++ s → All (λ b. is_ascii_whitespace b ≡ false) v → EndsWord r → All (λ b. is_ascii_whitespace b ≡ false) w → EndsWord s → v ≡ w
 same_word [] r [] s e free_v ended_r free_w ended_s = refl
-same_word [] r (d ∷ w) s e free_v ended_r free_w ended_s = absurd (both_kinds d (subst EndsWord e ended_r) (free_w 0 0 (omega arith)))
-same_word (c ∷ v) r [] s e free_v ended_r free_w ended_s = absurd (both_kinds c (subst EndsWord (sym e) ended_s) (free_v 0 0 (omega arith)))
+same_word [] r (d ∷ w) s e free_v ended_r free_w ended_s = absurd (both_ways _ (free_w 0 0 (omega arith)) (subst EndsWord e ended_r))
+same_word (c ∷ v) r [] s e free_v ended_r free_w ended_s = absurd (both_ways _ (free_v 0 0 (omega arith)) (subst EndsWord (sym e) ended_s))
 same_word (c ∷ v) r (d ∷ w) s e free_v ended_r free_w ended_s =
     let head : c ≡ d = ap (λ l. get_or l 0 0) e in
     let tail : v ++ r ≡ w ++ s = ap (drop 1) e in
@@ -56,7 +53,7 @@ not_a_gap : (v r g t : List ℕ) (c : ℕ) → IsWord v → IsBlank (c ∷ g) �
 not_a_gap [] r g t c word blank e = absurd (omega (arith, word.0))
 not_a_gap (d ∷ v) r g t c word blank e =
     let head : d ≡ c = ap (λ l. get_or l 0 0) e in
-    both_kinds d (subst (λ b. is_ascii_whitespace b ≡ true) (sym head) (blank 0 0 (omega arith))) (word.1 0 0 (omega arith))
+    both_ways _ (word.1 0 0 (omega arith)) (subst (λ b. is_ascii_whitespace b ≡ true) (sym head) (blank 0 0 (omega arith)))
 
 same_after_gaps : (g v r h w s : List ℕ) → g ++ (v ++ r) ≡ h ++ (w ++ s) → IsBlank g → IsWord v → EndsWord r → IsBlank h → IsWord w → EndsWord s → v ≡ w
 same_after_gaps [] v r [] w s e blank_g word_v ended_r blank_h word_w ended_s = same_word v r w s e word_v.1 ended_r word_w.1 ended_s
@@ -69,16 +66,12 @@ same_after_gaps (c ∷ g) v r (d ∷ h) w s e blank_g word_v ended_r blank_h wor
 pub one_first_word : (line v w : List ℕ) → BeginsWith line v → BeginsWith line w → v ≡ w
 one_first_word line v w a b = same_after_gaps a.gap v a.rest b.gap w b.rest (sym a.parts ∙ b.parts) a.blank a.word a.ended b.blank b.word b.ended
 
-head_of_word : (w rest : List ℕ) → 0 < length w → get_or (w ++ rest) 0 0 ≡ get_or w 0 0
-head_of_word [] rest some = absurd (omega arith)
-head_of_word (c ∷ w) rest some = refl
-
 -- a line with a word is not blank
 not_blank : (line w : List ℕ) → BeginsWith line w → IsBlank line → ⊥
 not_blank line w b blank =
-    let here : get_or line (length b.gap + 0) 0 ≡ get_or w 0 0 = ap (λ l. get_or l (length b.gap + 0) 0) b.parts ∙ get_or-append-add b.gap (w ++ b.rest) 0 0 ∙ head_of_word w b.rest b.word.0 in
+    let here : get_or line (length b.gap + 0) 0 ≡ get_or w 0 0 = ap (λ l. get_or l (length b.gap + 0) 0) b.parts ∙ get_or-append-add b.gap (w ++ b.rest) 0 0 ∙ get_or_append_left w b.rest 0 0 b.word.0 in
     let within : length b.gap + 0 < length line = omega (arith, ap length b.parts, length-append b.gap (w ++ b.rest), length-append w b.rest, b.word.0) in
-    both_kinds (get_or w 0 0) (subst (λ x. is_ascii_whitespace x ≡ true) here (blank (length b.gap + 0) 0 within)) (b.word.1 0 0 b.word.0)
+    both_ways _ (b.word.1 0 0 b.word.0) (subst (λ x. is_ascii_whitespace x ≡ true) here (blank (length b.gap + 0) 0 within))
 
 -- a line whose first word begins with another byte than '#' says something
 pub says_something : (line w : List ℕ) → BeginsWith line w → (slice_index w 0 ≡ 35 → ⊥) → SaysNothing line → ⊥

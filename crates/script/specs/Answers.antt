@@ -10,16 +10,19 @@ use Rattle.atn.specs.Checked.{net_of, Fault}
 use Rattle.script.specs.Contents.{Content, row_counts}
 use Rattle.script.specs.declared.answer.Answer.{Answer}
 use Rattle.script.specs.declared.answer.Verdict.{Verdict}
-use Rattle.script.specs.declared.answer.Verdict.TheVariants.{Accepted, Denied}
 
 -- a net that was made is accepted
 abbrev pub verdict_of : Result Atn Denial → Verdict
-verdict_of (Ok n) = Accepted
-verdict_of (Err d) = Denied d
+verdict_of (Ok n) = record { 0 = Ok tt }
+verdict_of (Err d) = record { 0 = Err d }
+
+-- what is printed of a net that is accepted or denied
+abbrev pub result_text : Result (Unit {0}) Denial → List ℕ
+result_text (Ok u) = codes "net ok"
+result_text (Err d) = codes "net denied " ++ decimal (denial_number d)
 
 abbrev pub verdict_text : Verdict → List ℕ
-verdict_text Accepted = codes "net ok"
-verdict_text (Denied d) = codes "net denied " ++ decimal (denial_number d)
+verdict_text v = result_text v.0
 
 -- the tables that the script gives, with m as the largest token type
 abbrev pub said_tables : Content → ℤ → Rows

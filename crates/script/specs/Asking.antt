@@ -1,18 +1,18 @@
 -- What a script asks beside its net, and what a line does to both.
-use Rattle.std.specs.Prelude.{◌≡◌, ◌<◌, ◌⊎◌, ℕ, List, [], ◌∷◌, ◌++◌, length, None, Ok, Err, vec_items, Result, is_ok, true}
+use Rattle.std.specs.Prelude.{◌≡◌, ◌<◌, ◌⊎◌, ℕ, List, [], ◌∷◌, ◌++◌, length, None, Ok, Err, Result, is_ok, true}
 use Rattle.script.specs.declared.script.Script.{Script}
 use Rattle.script.specs.declared.script_line.LookaheadKind.{LookaheadKind}
 use Rattle.script.specs.declared.script_line.LookaheadKind.TheVariants.{Walker}
 use Rattle.script.specs.declared.script_line.ScriptLine.{ScriptLine}
 use Rattle.script.specs.declared.script_line.ScriptLine.TheVariants.{Row, Lookahead, Asked}
-use Rattle.script.specs.declared.question.AskWord.{AskWord}
 use Rattle.script.specs.declared.question.AskWord.TheVariants as word
 use Rattle.script.specs.declared.question.Question.{Question}
 use Rattle.script.specs.declared.error.Fault.{Fault}
 use Rattle.script.specs.declared.error.Fault.TheVariants.{UnknownWord, WrongQuestion, TooLate}
-use Rattle.script.specs.Contents.{Content, Applied, RowAdded, nothing_said}
+use Rattle.script.specs.Contents.{Content, Applied, nothing_said}
 use Rattle.script.specs.Lines.{BeginsWith, LineFault, SaysNothing, Spelt, keyword_of, spelling}
 use Rattle.script.specs.Questions.{AskSpelt, ask_spelling, ask_word}
+use Rattle.script.specs.Rows.{RowAdded}
 
 -- how the questions are worked out, and the questions in their order
 pub record Asking : Type 0 where
@@ -20,7 +20,7 @@ pub record Asking : Type 0 where
   pub questions : List Question
 
 abbrev pub asking : Script → Asking
-asking s = record { lookahead = s.lookahead; questions = vec_items s.questions }
+asking s = record { lookahead = s.lookahead; questions = s.questions }
 
 -- What an empty script asks: nothing, of the walker.
 abbrev pub nothing_asked : Asking
@@ -41,18 +41,6 @@ abbrev pub ScriptLineFault : List ℕ → Fault → Type 0
 ScriptLineFault line UnknownWord = HasUnknownWord line
 ScriptLineFault line (WrongQuestion w) = BeginsWith line (ask_spelling w)
 ScriptLineFault line f = LineFault line f
-
--- the line names a lookahead
-abbrev pub IsLookahead : ScriptLine → Type 0
-IsLookahead (Row d) = ⊥
-IsLookahead (Lookahead l) = Unit {0}
-IsLookahead (Asked q) = ⊥
-
--- the line asks what the word asks
-abbrev pub Asks : AskWord → ScriptLine → Type 0
-Asks w (Row d) = ⊥
-Asks w (Lookahead l) = ⊥
-Asks w (Asked q) = ask_word q.ask ≡ w
 
 -- Before the first question the line does what it does; after it, it is refused and nothing changes.
 pub record Early (a : Asking) (r : Result (Unit {0}) Fault) (Does Nothing : Type 0) : Type 0 where

@@ -1,5 +1,5 @@
 -- What a script says, as plain lists, and what a directive does to it.
-use Rattle.std.specs.Prelude.{◌≡◌, ℕ, Bool, true, false, ◌⊎◌, List, [], ◌∷◌, ◌++◌, length, ℤ, pos, Some, None, Ok, Err, vec_items, Option, Result}
+use Rattle.std.specs.Prelude.{◌≡◌, ℕ, Bool, true, false, List, [], length, ℤ, pos, Some, None, Ok, Err, Option, Result}
 use Rattle.std.specs.Option.{unwrap_or}
 use Rattle.interval_set.specs.declared.interval.Interval.{Interval}
 use Rattle.atn_graph.specs.declared.tables.Tables.{Tables}
@@ -11,7 +11,7 @@ use Rattle.script.specs.declared.script.Script.{Script}
 use Rattle.script.specs.declared.directive.Directive.{Directive}
 use Rattle.script.specs.declared.directive.Directive.TheVariants.{Net, Counts as GivenCounts, Rule, State, Edge, Interval as GivenInterval, Summary}
 use Rattle.script.specs.declared.error.Fault.{Fault}
-use Rattle.script.specs.declared.error.Fault.TheVariants.{FullTable, Memory}
+use Rattle.script.specs.Rows.{pushed, RefusedAt}
 
 -- What the lines say: an option is None until its line stands.
 pub record Content : Type 0 where
@@ -24,21 +24,17 @@ pub record Content : Type 0 where
   pub summary : Bool
 
 abbrev pub content : Script → Content
-content s = record { max = s.max; counts = s.counts; rules = vec_items s.rules; states = vec_items s.states; edges = vec_items s.edges; intervals = vec_items s.intervals; summary = s.summary }
-
--- one more at the end
-abbrev pub pushed : {X : Type 0} → List X → X → List X
-pushed xs x = xs ++ x ∷ []
+content s = record { max = s.max; counts = s.counts; rules = s.rules; states = s.states; edges = s.edges; intervals = s.intervals; summary = s.summary }
 
 -- what the script says once the directive is taken in: a row goes to its own table, an option replaces an earlier one
 abbrev pub taken_in : Directive → Content → Content
-taken_in (Net n) k = record { max = Some n; counts = k.counts; rules = k.rules; states = k.states; edges = k.edges; intervals = k.intervals; summary = k.summary }
-taken_in (GivenCounts n) k = record { max = k.max; counts = Some n; rules = k.rules; states = k.states; edges = k.edges; intervals = k.intervals; summary = k.summary }
-taken_in (Rule r) k = record { max = k.max; counts = k.counts; rules = pushed k.rules r; states = k.states; edges = k.edges; intervals = k.intervals; summary = k.summary }
-taken_in (State r) k = record { max = k.max; counts = k.counts; rules = k.rules; states = pushed k.states r; edges = k.edges; intervals = k.intervals; summary = k.summary }
-taken_in (Edge r) k = record { max = k.max; counts = k.counts; rules = k.rules; states = k.states; edges = pushed k.edges r; intervals = k.intervals; summary = k.summary }
-taken_in (GivenInterval i) k = record { max = k.max; counts = k.counts; rules = k.rules; states = k.states; edges = k.edges; intervals = pushed k.intervals i; summary = k.summary }
-taken_in Summary k = record { max = k.max; counts = k.counts; rules = k.rules; states = k.states; edges = k.edges; intervals = k.intervals; summary = true }
+taken_in (Net n) k = record k { max = Some n }
+taken_in (GivenCounts n) k = record k { counts = Some n }
+taken_in (Rule r) k = record k { rules = pushed k.rules r }
+taken_in (State r) k = record k { states = pushed k.states r }
+taken_in (Edge r) k = record k { edges = pushed k.edges r }
+taken_in (GivenInterval i) k = record k { intervals = pushed k.intervals i }
+taken_in Summary k = record k { summary = true }
 
 -- how many rows the table has that the directive is for; an option is for none
 abbrev pub rows_for : Directive → Content → Option ℕ
@@ -49,20 +45,6 @@ rows_for (State r) k = Some (length k.states)
 rows_for (Edge r) k = Some (length k.edges)
 rows_for (GivenInterval i) k = Some (length k.intervals)
 rows_for Summary k = None
-
--- A table takes a million rows.
-abbrev pub full : ℕ
-full = 1000000
-
--- The fault f refuses a row: its table of so many rows is full, or memory ran out. An option is never refused.
-abbrev pub RefusedAt : Option ℕ → Fault → Type 0
-RefusedAt None f = ⊥
-RefusedAt (Some n) f = ((f ≡ FullTable) × (n ≡ full)) ⊎ (f ≡ Memory)
-
--- The row is put at the table's end; or it is refused, and then nothing changes.
-abbrev pub RowAdded : {X : Type 0} → List X → X → Result (Unit {0}) Fault → List X → Type 0
-RowAdded before x (Ok u) after = after ≡ pushed before x
-RowAdded before x (Err f) after = (after ≡ before) × RefusedAt (Some (length before)) f
 
 -- The directive is taken in; or it is refused by its table, and then nothing changes.
 abbrev pub Applied : Directive → Content → Result (Unit {0}) Fault → Content → Type 0

@@ -4,3 +4,5 @@ pub mod Contents
 pub mod Lines
 pub mod Numbers
 pub mod Questions
+pub mod Rows
+pub mod Words

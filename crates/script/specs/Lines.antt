@@ -1,5 +1,5 @@
 -- What a line says: the directive that its first word and its numbers give.
-use Rattle.std.specs.Prelude.{◌≡◌, ◌⊎◌, ℕ, ◌+◌, ◌<◌, true, false, cond, List, [], ◌∷◌, ◌++◌, length, All, ℤ, pos, Some, None, codes, fold, Option, ◌==◌, ◌≢◌, slice_index, slice_index_or}
+use Rattle.std.specs.Prelude.{◌≡◌, ◌⊎◌, ℕ, ◌+◌, ◌<◌, true, false, cond, List, [], ◌∷◌, ◌++◌, length, All, ℤ, pos, Some, None, codes, fold, Option, ◌==◌, slice_index, slice_index_or}
 use Rattle.std.specs.Char.{is_ascii_whitespace}
 use Rattle.script.specs.declared.directive.Directive.{Directive}
 use Rattle.script.specs.declared.directive.Directive.TheVariants.{Net, Counts, Rule, State, Edge, Interval, Summary}
@@ -7,6 +7,7 @@ use Rattle.script.specs.declared.error.Fault.{Fault}
 use Rattle.script.specs.declared.error.Fault.TheVariants.{UnknownWord, WrongForm, FullTable, NoNet, Memory, WrongQuestion, TooLate}
 use Rattle.script.specs.declared.keyword.Keyword.{Keyword}
 use Rattle.script.specs.declared.keyword.Keyword.TheVariants as keyword
+use Rattle.script.specs.Words.{IsSpelt}
 
 -- all of it is ASCII white space
 abbrev pub IsBlank : List ℕ → Type 0
@@ -60,8 +61,7 @@ numbers_after keyword.Summary = 0
 
 -- the word is the keyword's, or no keyword's
 abbrev pub Spelt : List ℕ → Option Keyword → Type 0
-Spelt w (Some k) = w ≡ spelling k
-Spelt w None = (k : Keyword) → w ≢ spelling k
+Spelt = IsSpelt spelling
 
 -- the word that the directive's line begins with
 abbrev pub keyword_of : Directive → Keyword
@@ -95,6 +95,16 @@ Holds ns Summary = Unit {0}
 abbrev pub Formed : Keyword → List ℤ → Option Directive → Type 0
 Formed k ns (Some d) = (keyword_of d ≡ k) × (length ns ≡ numbers_after k) × Holds ns d
 Formed k ns None = length ns ≡ numbers_after k → ⊥
+
+-- What can be wrong with a row or an option by itself, by its first word: it is no keyword, or the form of its keyword is not kept.
+abbrev pub WordFault : List ℕ → Fault → Type 0
+WordFault w UnknownWord = Spelt w None
+WordFault w (WrongForm k) = w ≡ spelling k
+WordFault w FullTable = ⊥
+WordFault w NoNet = ⊥
+WordFault w Memory = Unit {0}
+WordFault w (WrongQuestion k) = ⊥
+WordFault w TooLate = ⊥
 
 -- What can be wrong with a line by itself. The word that is no keyword, or whose form is not kept, is its first.
 abbrev pub LineFault : List ℕ → Fault → Type 0

@@ -4,6 +4,9 @@ use Rattle.script.specs.declared.question.AskWord.{AskWord}
 use Rattle.script.specs.declared.question.AskWord.TheVariants as word
 use Rattle.script.specs.declared.question.Ask.{Ask}
 use Rattle.script.specs.declared.question.Ask.TheVariants.{Within, InContext, Expected, Recovery}
+use Rattle.script.specs.declared.script_line.LookaheadKind.{LookaheadKind}
+use Rattle.script.specs.declared.script_line.LookaheadKind.TheVariants.{Walker, Table, Cache}
+use Rattle.script.specs.Words.{IsSpelt}
 
 -- the word as it is written
 abbrev pub ask_spelling : AskWord → List ℕ
@@ -15,8 +18,13 @@ ask_spelling word.Recovery = codes "recovery"
 
 -- the word is the one so spelt, or none of them
 abbrev pub AskSpelt : List ℕ → Option AskWord → Type 0
-AskSpelt w (Some k) = w ≡ ask_spelling k
-AskSpelt w None = (k : AskWord) → w ≢ ask_spelling k
+AskSpelt = IsSpelt ask_spelling
+
+-- the lookahead's name as it is written
+abbrev pub lookahead_spelling : LookaheadKind → List ℕ
+lookahead_spelling Walker = codes "walker"
+lookahead_spelling Table = codes "table"
+lookahead_spelling Cache = codes "cache"
 
 -- the state that a number names; one below 0 names none
 abbrev pub state_number : ℤ → ℕ

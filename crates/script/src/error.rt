@@ -73,9 +73,7 @@ impl fmt::Display for Fault {
 
 impl fmt::Display for ScriptError {
     fn fmt<W: fmt::Write>(&self, f: &mut fmt::Formatter<W>) -> fmt::Result {
-        let line = self.line;
-        let fault = self.fault;
-        write!(f, "line {line}: {fault}")
+        write!(f, "line {}: {}", self.line, self.fault)
     }
 }
 

@@ -1,6 +1,10 @@
-ghost use Rattle.script.specs.Lines.{Spelt};
+ghost use Rattle.script.specs.Lines.{spelling};
+ghost use Rattle.script.specs.Words.{IsRead};
+ghost use Rattle.script.specs.declared.error.Fault.TheVariants.{UnknownWord};
 
+use crate::error::Fault;
 use std::fmt;
+use std::str::FromStr;
 
 // The words that a line may begin with.
 #[derive(Clone, Copy, PartialEq, Eq, Debug)]
@@ -14,20 +18,21 @@ pub enum Keyword {
     Summary,
 }
 
-impl Keyword {
-    // The keyword so spelt.
-    pub fn of(word: &str) -> Option<Keyword>
-        ensures { Spelt word.now result }
-    {
+impl FromStr for Keyword {
+    type Err = Fault;
+
+    ghost from_str_gives = { IsRead spelling UnknownWord };
+
+    fn from_str(word: &str) -> Result<Keyword, Fault> {
         match word {
-            "net" => Some(Keyword::Net),
-            "counts" => Some(Keyword::Counts),
-            "rule" => Some(Keyword::Rule),
-            "state" => Some(Keyword::State),
-            "edge" => Some(Keyword::Edge),
-            "interval" => Some(Keyword::Interval),
-            "summary" => Some(Keyword::Summary),
-            _ => None,
+            "net" => Ok(Keyword::Net),
+            "counts" => Ok(Keyword::Counts),
+            "rule" => Ok(Keyword::Rule),
+            "state" => Ok(Keyword::State),
+            "edge" => Ok(Keyword::Edge),
+            "interval" => Ok(Keyword::Interval),
+            "summary" => Ok(Keyword::Summary),
+            _ => Err(Fault::UnknownWord),
         }
     }
 }
@@ -35,7 +40,7 @@ impl Keyword {
 // The form of the keyword's line.
 impl fmt::Display for Keyword {
     fn fmt<W: fmt::Write>(&self, f: &mut fmt::Formatter<W>) -> fmt::Result {
-        let form = match *self {
+        f.write_str(match self {
             Keyword::Net => "net MAX, one number",
             Keyword::Counts => "counts RULES STATES EDGES INTERVALS, four numbers",
             Keyword::Rule => "rule START STOP, two numbers",
@@ -43,7 +48,6 @@ impl fmt::Display for Keyword {
             Keyword::Edge => "edge KIND TARGET A B, four numbers",
             Keyword::Interval => "interval LOW HIGH, two numbers",
             Keyword::Summary => "summary, no number",
-        };
-        write!(f, "{form}")
+        })
     }
 }

@@ -11,6 +11,7 @@ pub mod line;
 pub mod number;
 pub mod parse;
 pub mod question;
+mod rows;
 pub mod script;
 pub mod script_line;
 pub mod tables;

@@ -1,5 +1,5 @@
-ghost use Rattle.std.specs.Prelude.{◌≡◌, ◌⊎◌, None, Ok, IfNone, IfSome, IfOk, IfErr};
-ghost use Rattle.script.specs.Lines.{BeginsWith, Formed, LineFault, SaysNothing, keyword_of, spelling};
+ghost use Rattle.std.specs.Prelude.{◌≡◌, ◌⊎◌, None, Ok, IfNone, IfSome, IfOk, IfErr, MatchOption};
+ghost use Rattle.script.specs.Lines.{BeginsWith, Formed, LineFault, SaysNothing, WordFault, keyword_of, spelling};
 ghost use Rattle.script.specs.declared.error.Fault.TheVariants.{Memory};
 
 use crate::directive::Directive;
@@ -39,6 +39,21 @@ impl Directive {
         }
     }
 
+    // What a line of these words says.
+    pub(crate) fn of_words(
+        heap: Global,
+        first: &str,
+        words: SplitAsciiWhitespace<'_>,
+    ) -> Result<Directive, Fault>
+        ensures word { IfOk result (λ d. first.now ≡ spelling (keyword_of d)) }
+        ensures fault { IfErr result (WordFault first.now) }
+    {
+        let keyword: Keyword = first.parse()?;
+        let wrong = Fault::WrongForm(keyword);
+        let numbers = read_numbers(heap, wrong, words)?;
+        Directive::form(keyword, numbers.as_slice()).ok_or(wrong)
+    }
+
     // What the line says. A blank line and a comment say nothing.
     pub fn read(heap: Global, line: &str) -> Result<Option<Directive>, Fault>
         ensures nothing { IfOk result (λ said. IfNone said (SaysNothing line.now)) }
@@ -46,22 +61,23 @@ impl Directive {
         ensures word { IfOk result (λ said. IfSome said (λ d. BeginsWith line.now (spelling (keyword_of d)))) }
         ensures fault { IfErr result (LineFault line.now) }
     {
-        let mut words = line.split_ascii_whitespace();
-        let Some(first) = words.next() else {
+        let Some((first, words)) = split_first_word(line) else {
             return Ok(None);
         };
-        if first.starts_with('#') {
-            return Ok(None);
-        }
-        let Some(keyword) = Keyword::of(first) else {
-            return Err(Fault::UnknownWord);
-        };
-        let numbers = read_numbers(heap, Fault::WrongForm(keyword), words)?;
-        match Directive::form(keyword, numbers.as_slice()) {
-            Some(directive) => Ok(Some(directive)),
-            None => Err(Fault::WrongForm(keyword)),
-        }
+        Ok(Some(Directive::of_words(heap, first, words)?))
     }
+}
+
+// The first word of a line that says something, and the words after it.
+pub(crate) fn split_first_word(line: &str) -> Option<(&str, SplitAsciiWhitespace<'_>)>
+    ensures { MatchOption result (SaysNothing line.now) (λ p. BeginsWith line.now p.0.now × (SaysNothing line.now → ⊥)) }
+{
+    let mut words = line.split_ascii_whitespace();
+    let first = words.next()?;
+    if first.starts_with('#') {
+        return None;
+    }
+    Some((first, words))
 }
 
 // The numbers that the words after a line's first stand for; or what is wrong, where a word is none.
@@ -73,11 +89,9 @@ pub(crate) fn read_numbers(
     ensures { IfErr result (λ f. (f ≡ wrong) ⊎ (f ≡ Memory)) }
 {
     let mut numbers = Vec::new(heap);
+    // kept as a loop: `try_collect` does not promise which error it ends with
     for word in words {
-        let Some(number) = read_number(word) else {
-            return Err(wrong);
-        };
-        numbers.push(number)?;
+        numbers.push(read_number(word).ok_or(wrong)?)?;
     }
     Ok(numbers)
 }

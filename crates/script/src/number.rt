@@ -5,21 +5,12 @@ ghost use Rattle.script.specs.Numbers.{nearest, StandsFor};
 pub fn clamp(n: i64) -> i32
     ensures { result ≡ nearest n }
 {
-    if n < -2_147_483_648 {
-        i32::MIN
-    } else if n > 2_147_483_647 {
-        i32::MAX
-    } else {
-        n as i32
-    }
+    n.clamp(i64::from(i32::MIN), i64::from(i32::MAX)) as i32
 }
 
 // The number that a word stands for, if it is one.
 pub fn read_number(word: &str) -> Option<i32>
     ensures { StandsFor word.now result }
 {
-    match word.parse::<i64>() {
-        Ok(n) => Some(clamp(n)),
-        Err(_) => None,
-    }
+    word.parse().ok().map(clamp)
 }

@@ -35,19 +35,15 @@ pub fn parse(heap: Global, text: &str) -> Result<Script, ScriptError>
     ensures past_last { IfErr result (λ e. e.fault ≡ NoNet → newlines text.now + 1 ≤ e.line) }
 {
     let mut script = Script::new(heap);
-    let mut number: usize = 0;
-    for line in text.lines() {
-        number += 1;
-        if let Err(fault) = take_line(heap, &mut script, line) {
-            return Err(ScriptError {
-                line: number,
-                fault,
-            });
-        }
+    for (before, line) in text.lines().enumerate() {
+        take_line(heap, &mut script, line).map_err(|fault| ScriptError {
+            line: before + 1,
+            fault,
+        })?;
     }
     if script.max.is_none() {
         return Err(ScriptError {
-            line: number + 1,
+            line: text.lines().count() + 1,
             fault: Fault::NoNet,
         });
     }

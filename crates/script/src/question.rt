@@ -1,8 +1,12 @@
 ghost use Rattle.std.specs.Prelude.{◌≡◌, IfOk};
-ghost use Rattle.script.specs.Questions.{state_number, state_numbers, AskSpelt, Forms};
+ghost use Rattle.script.specs.Questions.{ask_spelling, state_number, state_numbers, Forms};
+ghost use Rattle.script.specs.Words.{IsRead};
+ghost use Rattle.script.specs.declared.error.Fault.TheVariants.{UnknownWord};
 
+use crate::error::Fault;
 use std::alloc::{AllocError, Global};
 use std::fmt;
+use std::str::FromStr;
 
 // The words that a question's line may begin with, and the one that says how questions are worked out.
 #[derive(Clone, Copy, PartialEq, Eq, Debug)]
@@ -14,18 +18,19 @@ pub enum AskWord {
     Recovery,
 }
 
-impl AskWord {
-    // The word so spelt.
-    pub fn of(word: &str) -> Option<AskWord>
-        ensures { AskSpelt word.now result }
-    {
+impl FromStr for AskWord {
+    type Err = Fault;
+
+    ghost from_str_gives = { IsRead ask_spelling UnknownWord };
+
+    fn from_str(word: &str) -> Result<AskWord, Fault> {
         match word {
-            "lookahead" => Some(AskWord::Lookahead),
-            "within" => Some(AskWord::Within),
-            "in-context" => Some(AskWord::InContext),
-            "expected" => Some(AskWord::Expected),
-            "recovery" => Some(AskWord::Recovery),
-            _ => None,
+            "lookahead" => Ok(AskWord::Lookahead),
+            "within" => Ok(AskWord::Within),
+            "in-context" => Ok(AskWord::InContext),
+            "expected" => Ok(AskWord::Expected),
+            "recovery" => Ok(AskWord::Recovery),
+            _ => Err(Fault::UnknownWord),
         }
     }
 }
@@ -33,14 +38,13 @@ impl AskWord {
 // The form of the word's line.
 impl fmt::Display for AskWord {
     fn fmt<W: fmt::Write>(&self, f: &mut fmt::Formatter<W>) -> fmt::Result {
-        let form = match *self {
+        f.write_str(match self {
             AskWord::Lookahead => "lookahead walker, table or cache",
             AskWord::Within => "within S, one number",
             AskWord::InContext => "in-context S C.., one number or more",
             AskWord::Expected => "expected S C.., one number or more",
             AskWord::Recovery => "recovery C.., one number or more",
-        };
-        write!(f, "{form}")
+        })
     }
 }
 
@@ -61,11 +65,12 @@ pub struct Question {
     pub ask: Ask,
 }
 
-// The state that a number names. One below 0 names none, like any past the last state.
+// The state that a number names. One below 0 names none, like any past the last state; kept a number, as
+// questions are asked by any number.
 pub fn state_number(n: i32) -> usize
     ensures { result ≡ state_number n }
 {
-    if n < 0 { usize::MAX } else { n as usize }
+    usize::try_from(n).unwrap_or(usize::MAX)
 }
 
 fn state_numbers(heap: Global, numbers: &[i32]) -> Result<Vec<usize>, AllocError>
@@ -81,10 +86,10 @@ impl Ask {
         ensures { IfOk result (Forms word numbers.now) }
     {
         let states = state_numbers(heap, numbers)?;
-        let Some((first, rest)) = states.as_slice().split_first() else {
+        let [state, rest @ ..] = states.as_slice() else {
             return Ok(None);
         };
-        let state = *first;
+        let state = *state;
         let ask = match word {
             AskWord::Within if rest.is_empty() => Some(Ask::Within { state }),
             AskWord::InContext => Some(Ask::InContext {

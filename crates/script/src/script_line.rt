@@ -1,15 +1,17 @@
-ghost use Rattle.std.specs.Prelude.{◌≡◌, ◌⊎◌, true, None, Ok, is_some, IfNone, IfSome, IfOk, IfErr};
-ghost use Rattle.script.specs.Asking.{Asks, IsLookahead, ScriptLineFault, first_word};
+ghost use Rattle.std.specs.Prelude.{◌≡◌, ◌⊎◌, None, Ok, IfNone, IfSome, IfOk, IfErr};
+ghost use Rattle.script.specs.Asking.{ScriptLineFault, first_word};
 ghost use Rattle.script.specs.Lines.{BeginsWith, SaysNothing};
+ghost use Rattle.script.specs.Questions.{ask_word, lookahead_spelling};
+ghost use Rattle.script.specs.Words.{IsRead};
 ghost use Rattle.script.specs.declared.error.Fault.TheVariants.{WrongQuestion, Memory};
 ghost use Rattle.script.specs.declared.question.AskWord.TheVariants.{Lookahead};
 
 use crate::directive::Directive;
 use crate::error::Fault;
-use crate::line::read_numbers;
+use crate::line::{read_numbers, split_first_word};
 use crate::question::{Ask, AskWord, Question};
 use std::alloc::{AllocError, Global};
-use std::str::SplitAsciiWhitespace;
+use std::str::{FromStr, SplitAsciiWhitespace};
 
 // Ways to work out what may come next. All answer alike.
 #[derive(Clone, Copy, PartialEq, Eq, Debug)]
@@ -17,6 +19,21 @@ pub enum LookaheadKind {
     Walker,
     Table,
     Cache,
+}
+
+impl FromStr for LookaheadKind {
+    type Err = Fault;
+
+    ghost from_str_gives = { IsRead lookahead_spelling (WrongQuestion Lookahead) };
+
+    fn from_str(name: &str) -> Result<LookaheadKind, Fault> {
+        match name {
+            "walker" => Ok(LookaheadKind::Walker),
+            "table" => Ok(LookaheadKind::Table),
+            "cache" => Ok(LookaheadKind::Cache),
+            _ => Err(Fault::WrongQuestion(AskWord::Lookahead)),
+        }
+    }
 }
 
 // What one line of a script says.
@@ -37,29 +54,26 @@ impl ScriptLine {
         ensures word { IfOk result (λ said. IfSome said (λ x. BeginsWith line.now (first_word x))) }
         ensures fault { IfErr result (ScriptLineFault line.now) }
     {
-        let mut words = line.split_ascii_whitespace();
-        let Some(first) = words.next() else {
+        let Some((first, words)) = split_first_word(line) else {
             return Ok(None);
         };
-        match AskWord::of(first) {
-            None => Ok(Directive::read(heap, line)?.map(|directive| ScriptLine::Row(directive))),
-            Some(AskWord::Lookahead) => read_lookahead(words),
-            Some(word) => read_question(heap, word, line, words),
-        }
+        let said = match first.parse::<AskWord>() {
+            Ok(AskWord::Lookahead) => ScriptLine::Lookahead(read_lookahead(words)?),
+            Ok(word) => ScriptLine::Asked(read_question(heap, word, line, words)?),
+            Err(_) => ScriptLine::Row(Directive::of_words(heap, first, words)?),
+        };
+        Ok(Some(said))
     }
 }
 
 // The lookahead that the one word after the first names.
-fn read_lookahead(words: SplitAsciiWhitespace<'_>) -> Result<Option<ScriptLine>, Fault>
-    ensures names { IfOk result (λ line. IfSome line IsLookahead × (is_some line ≡ true)) }
-    ensures wrong { IfErr result (λ f. f ≡ WrongQuestion Lookahead) }
+fn read_lookahead(mut words: SplitAsciiWhitespace<'_>) -> Result<LookaheadKind, Fault>
+    ensures { IfErr result (λ f. f ≡ WrongQuestion Lookahead) }
 {
-    let mut words = words;
+    let wrong = Fault::WrongQuestion(AskWord::Lookahead);
     match (words.next(), words.next()) {
-        (Some("walker"), None) => Ok(Some(ScriptLine::Lookahead(LookaheadKind::Walker))),
-        (Some("table"), None) => Ok(Some(ScriptLine::Lookahead(LookaheadKind::Table))),
-        (Some("cache"), None) => Ok(Some(ScriptLine::Lookahead(LookaheadKind::Cache))),
-        _ => Err(Fault::WrongQuestion(AskWord::Lookahead)),
+        (Some(name), None) => name.parse(),
+        _ => Err(wrong),
     }
 }
 
@@ -69,27 +83,19 @@ fn read_question(
     word: AskWord,
     line: &str,
     words: SplitAsciiWhitespace<'_>,
-) -> Result<Option<ScriptLine>, Fault>
-    ensures asks { IfOk result (λ line. IfSome line (Asks word) × (is_some line ≡ true)) }
+) -> Result<Question, Fault>
+    ensures asks { IfOk result (λ q. ask_word q.ask ≡ word) }
     ensures wrong { IfErr result (λ f. (f ≡ WrongQuestion word) ⊎ (f ≡ Memory)) }
 {
     let wrong = Fault::WrongQuestion(word);
     let numbers = read_numbers(heap, wrong, words)?;
-    let Some(ask) = Ask::form(heap, word, numbers.as_slice())? else {
-        return Err(wrong);
-    };
+    let ask = Ask::form(heap, word, numbers.as_slice())?.ok_or(wrong)?;
     let words = single_blanks(heap, line)?;
-    Ok(Some(ScriptLine::Asked(Question { words, ask })))
+    Ok(Question { words, ask })
 }
 
 // The words of the line with one blank between two.
 fn single_blanks(heap: Global, line: &str) -> Result<String, AllocError> {
-    let mut text = String::new(heap);
-    for word in line.split_ascii_whitespace() {
-        if !text.is_empty() {
-            text.push_str(" ")?;
-        }
-        text.push_str(word)?;
-    }
-    Ok(text)
+    let words: Vec<&str> = line.split_ascii_whitespace().collect(heap)?;
+    words.as_slice().join(heap, " ")
 }

@@ -3,6 +3,7 @@ ghost use Rattle.script.specs.Asking.{asking, nothing_asked};
 ghost use Rattle.script.specs.Contents.{content, nothing_said, row_counts, ItsTables};
 
 use crate::question::Question;
+use crate::rows::Rows;
 use crate::script::Script;
 use crate::script_line::LookaheadKind;
 use atn_graph::tables::{Counts, Tables};
@@ -17,13 +18,13 @@ impl Script {
         Script {
             max: None,
             counts: None,
-            rules: Vec::new(heap),
-            states: Vec::new(heap),
-            edges: Vec::new(heap),
-            intervals: Vec::new(heap),
+            rules: Rows::new(heap),
+            states: Rows::new(heap),
+            edges: Rows::new(heap),
+            intervals: Rows::new(heap),
             summary: false,
             lookahead: LookaheadKind::Walker,
-            questions: Vec::new(heap),
+            questions: Rows::new(heap),
         }
     }
 
@@ -62,11 +63,8 @@ impl Script {
     pub fn tables(&self) -> Option<Tables<'_>>
         ensures { MatchOption result ((content self.now).max ≡ None) (ItsTables (content self.now)) }
     {
-        let Some(max_token_type) = self.max else {
-            return None;
-        };
         Some(Tables {
-            max_token_type,
+            max_token_type: self.max?,
             counts: self.counts.unwrap_or(self.row_counts()),
             rules: self.rules.as_slice(),
             states: self.states.as_slice(),

@@ -1,5 +1,7 @@
 // Texts that are no scripts, and what is said of each.
 use script::parse::parse;
+use std::alloc::Global;
+use std::process::Abort;
 use std::test::*;
 
 const TOO_FEW: [(&str, &str); 6] = [
@@ -169,52 +171,47 @@ const TOO_LATE: [(&str, &str); 6] = [
 ];
 
 // Each text is refused with its message.
-fn refused(rt: HostRuntime, cases: &[(&str, &str)]) -> Result<(), Fail> {
-    let heap = rt.alloc();
+fn refused(rt: &impl Abort, heap: Global, cases: &[(&str, &str)]) -> Result<(), Fail> {
     for (text, message) in cases {
-        match parse(heap, *text) {
-            Ok(_) => return Err(Fail::new("a malformed script was taken")),
-            Err(error) => {
-                if error.to_string(heap)?.as_str() != *message {
-                    return Err(Fail::new("a malformed script has another message"));
-                }
-            }
-        }
+        let error = parse(heap, *text)
+            .err()
+            .ok_or("a malformed script was taken")?;
+        assert_eq!(rt; error.to_string(heap)?.as_str(), *message, "{}", *text);
     }
     Ok(())
 }
 
 #[test]
 fn too_few_numbers(rt: HostRuntime) -> Result<(), Fail> {
-    refused(rt, &TOO_FEW)
+    refused(&rt, rt.alloc(), &TOO_FEW)
 }
 
 #[test]
 fn too_many_numbers(rt: HostRuntime) -> Result<(), Fail> {
-    refused(rt, &TOO_MANY)
+    refused(&rt, rt.alloc(), &TOO_MANY)
 }
 
 #[test]
 fn words_that_are_no_numbers(rt: HostRuntime) -> Result<(), Fail> {
-    refused(rt, &NO_NUMBER)
+    refused(&rt, rt.alloc(), &NO_NUMBER)
 }
 
 #[test]
 fn unknown_words(rt: HostRuntime) -> Result<(), Fail> {
-    refused(rt, &UNKNOWN)
+    refused(&rt, rt.alloc(), &UNKNOWN)
 }
 
 #[test]
 fn no_net_line(rt: HostRuntime) -> Result<(), Fail> {
-    refused(rt, &NO_NET)
+    refused(&rt, rt.alloc(), &NO_NET)
 }
 
 #[test]
 fn words_that_are_no_question(rt: HostRuntime) -> Result<(), Fail> {
-    refused(rt, &NO_QUESTION)
+    refused(&rt, rt.alloc(), &NO_QUESTION)
 }
 
 #[test]
 fn rows_after_a_question(rt: HostRuntime) -> Result<(), Fail> {
-    refused(rt, &TOO_LATE)
+    refused(&rt, rt.alloc(), &TOO_LATE)
 }

@@ -36,15 +36,19 @@ const ASKED: [(&str, &str); 18] = [
     (" \twithin   +008 ", "within +008: 2"),
 ];
 
+// What is printed for the script.
+fn printed(heap: Global, text: &str) -> Result<String, Fail> {
+    let script = parse(heap, text)?;
+    let answer = ScriptAnswer::of(heap, &script)?.ok_or("no answer")?;
+    Ok(answer.to_string(heap)?)
+}
+
 fn answered(rt: &impl Abort, heap: Global, option: &str) -> Result<(), Fail> {
     for (question, line) in ASKED {
         let text = format!(in heap; "{option}{PASS}{question}\n")?;
-        let script = parse(heap, text.as_str())?;
-        let Some(answer) = ScriptAnswer::of(heap, &script)? else {
-            return Err(Fail::new("no answer"));
-        };
+        let printed = printed(heap, text.as_str())?;
         let expected = format!(in heap; "net ok\n{line}\n")?;
-        assert_eq!(rt; answer.to_string(heap)?.as_str(), expected.as_str());
+        assert_eq!(rt; printed.as_str(), expected.as_str());
     }
     Ok(())
 }
@@ -68,11 +72,8 @@ fn by_the_cache(rt: HostRuntime) -> Result<(), Fail> {
 #[test]
 fn about_a_denied_net(rt: HostRuntime) -> Result<(), Fail> {
     let heap = rt.alloc();
-    let script = parse(heap, "net 1\nwithin 0\nrecovery 0\n")?;
-    let Some(answer) = ScriptAnswer::of(heap, &script)? else {
-        return Err(Fail::new("no answer"));
-    };
-    assert_eq!(rt; answer.to_string(heap)?.as_str(), "net denied 2\n");
+    let printed = printed(heap, "net 1\nwithin 0\nrecovery 0\n")?;
+    assert_eq!(rt; printed.as_str(), "net denied 2\n");
     Ok(())
 }
 
@@ -81,22 +82,16 @@ fn about_a_denied_net(rt: HostRuntime) -> Result<(), Fail> {
 fn of_a_state_that_takes_nothing(rt: HostRuntime) -> Result<(), Fail> {
     let heap = rt.alloc();
     let text = "net 2\nrule 0 1\nstate 0 2 1\nstate 0 7 0\nedge 8 1 0 1\ninterval 1 2\nwithin 0\n";
-    let script = parse(heap, text)?;
-    let Some(answer) = ScriptAnswer::of(heap, &script)? else {
-        return Err(Fail::new("no answer"));
-    };
-    assert_eq!(rt; answer.to_string(heap)?.as_str(), "net ok\nwithin 0: {}\n");
+    let printed = printed(heap, text)?;
+    assert_eq!(rt; printed.as_str(), "net ok\nwithin 0: {}\n");
     Ok(())
 }
 
 // The set of state 0 where state 1 stops the only rule.
 fn set_of_the_start(rt: &impl Abort, heap: Global, rows: &str, expected: &str) -> Result<(), Fail> {
     let text = format!(in heap; "rule 0 1\nstate 0 2 {rows}within 0\n")?;
-    let script = parse(heap, text.as_str())?;
-    let Some(answer) = ScriptAnswer::of(heap, &script)? else {
-        return Err(Fail::new("no answer"));
-    };
-    assert_eq!(rt; answer.to_string(heap)?.as_str(), expected);
+    let printed = printed(heap, text.as_str())?;
+    assert_eq!(rt; printed.as_str(), expected);
     Ok(())
 }
 
@@ -124,15 +119,12 @@ fn a_table_of_all_states(rt: HostRuntime) -> Result<(), Fail> {
     }
     text.push_str("state 0 7 0\n")?;
     for s in 0..510 {
-        text.push_str(format!(in heap; "edge 1 {} 0 0\n", s + 1)?.as_str())?;
+        writeln!(text, "edge 1 {} 0 0", s + 1)?;
     }
     text.push_str("edge 5 511 2 0\nwithin 0\nwithin 510\nwithin 511\nwithin 512\n")?;
-    let script = parse(heap, text.as_str())?;
-    let Some(answer) = ScriptAnswer::of(heap, &script)? else {
-        return Err(Fail::new("no answer"));
-    };
+    let printed = printed(heap, text.as_str())?;
     assert_eq!(rt;
-        answer.to_string(heap)?.as_str(),
+        printed.as_str(),
         "net ok\nwithin 0: 2\nwithin 510: 2\nwithin 511: -2\nwithin 512: denied 8\n"
     );
     Ok(())

@@ -1,56 +1,31 @@
 // Texts that are scripts, and what they say.
-use atn_graph::tables::{Counts, EdgeRow, RuleRow, StateRow};
-use interval_set::interval::Interval;
 use script::parse::parse;
 use script::script::Script;
-use std::alloc::{AllocError, Global};
+use std::alloc::Global;
 use std::test::*;
-
-fn push_rules(heap: Global, out: &mut String, rows: &[RuleRow]) -> Result<(), AllocError> {
-    for r in rows {
-        out.push_str(format!(in heap; " rule {} {}", r.start, r.stop)?.as_str())?;
-    }
-    Ok(())
-}
-
-fn push_states(heap: Global, out: &mut String, rows: &[StateRow]) -> Result<(), AllocError> {
-    for s in rows {
-        out.push_str(format!(in heap; " state {} {} {}", s.rule, s.kind, s.edges)?.as_str())?;
-    }
-    Ok(())
-}
-
-fn push_edges(heap: Global, out: &mut String, rows: &[EdgeRow]) -> Result<(), AllocError> {
-    for e in rows {
-        out.push_str(format!(in heap; " edge {} {} {} {}", e.kind, e.target, e.a, e.b)?.as_str())?;
-    }
-    Ok(())
-}
-
-fn push_intervals(heap: Global, out: &mut String, rows: &[Interval]) -> Result<(), AllocError> {
-    for i in rows {
-        out.push_str(format!(in heap; " interval {} {}", i.a, i.b)?.as_str())?;
-    }
-    Ok(())
-}
-
-fn push_counts(heap: Global, out: &mut String, k: Counts) -> Result<(), AllocError> {
-    let text = format!(in heap;
-        " counts {} {} {} {}",
-        k.rules, k.states, k.edges, k.intervals
-    )?;
-    out.push_str(text.as_str())
-}
 
 // What the script says, in one line: largest type, counts, rows.
 fn said(heap: Global, script: &Script) -> Result<String, Fail> {
     let t = script.tables().ok_or("no tables")?;
+    let k = t.counts;
     let mut out = t.max_token_type.to_string(heap)?;
-    push_counts(heap, &mut out, t.counts)?;
-    push_rules(heap, &mut out, t.rules)?;
-    push_states(heap, &mut out, t.states)?;
-    push_edges(heap, &mut out, t.edges)?;
-    push_intervals(heap, &mut out, t.intervals)?;
+    write!(
+        out,
+        " counts {} {} {} {}",
+        k.rules, k.states, k.edges, k.intervals
+    )?;
+    for r in t.rules {
+        write!(out, " rule {} {}", r.start, r.stop)?;
+    }
+    for s in t.states {
+        write!(out, " state {} {} {}", s.rule, s.kind, s.edges)?;
+    }
+    for e in t.edges {
+        write!(out, " edge {} {} {} {}", e.kind, e.target, e.a, e.b)?;
+    }
+    for i in t.intervals {
+        write!(out, " interval {} {}", i.a, i.b)?;
+    }
     Ok(out)
 }
 
@@ -106,9 +81,7 @@ fn an_empty_net_is_denied(rt: HostRuntime) -> Result<(), Fail> {
     let heap = rt.alloc();
     let script = parse(heap, "net 1\nsummary\n")?;
     assert!(rt; script.wants_summary());
-    let Some(answer) = script.answer() else {
-        return Err(Fail::new("no answer"));
-    };
+    let answer = script.answer().ok_or("no answer")?;
     assert_eq!(rt; answer.to_string(heap)?.as_str(), "net denied 2\n");
     Ok(())
 }

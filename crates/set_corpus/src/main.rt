@@ -3,7 +3,7 @@
 #![tactic(auto)]
 
 use answers::answer::ScriptAnswer;
-use anyhow::anyhow;
+use anyhow::Context;
 use script::parse::parse;
 use std::alloc::{AllocError, Global};
 use std::fs;
@@ -19,50 +19,46 @@ fn printed(heap: Global, text: &str) -> Result<String, AllocError> {
     }
 }
 
-// Whether the script is answered as expected, line for line; if not, says so.
+// Whether the script is answered as expected, line for line, with that lookahead; if not, says so.
 fn replay(
     rt: &HostRuntime,
-    number: u64,
-    option: &str,
+    number: usize,
+    lookahead: &str,
     script: &str,
     expected: &str,
 ) -> anyhow::Result<bool> {
     let heap = rt.alloc();
-    let found = printed(heap, format!(in heap; "{option}{script}")?.as_str())?;
+    let script = format!(in heap; "lookahead {lookahead}\n{script}")?;
+    let found = printed(heap, script.as_str())?;
     let expected = expected.replace(heap, "\n= ", "\n")?;
     let same = found.as_str().trim() == expected.as_str().trim();
     if !same {
-        println!(rt; "script {number}:")?;
-        rt.println(&found)?;
-        println!(rt; "expected:")?;
-        rt.println(&expected)?;
+        println!(rt; "script {number}:\n{found}\nexpected:\n{expected}")?;
     }
     Ok(same)
 }
 
-// Replays a file's scripts, each with the line before it.
-fn replay_all(rt: &HostRuntime, name: &str, option: &str) -> anyhow::Result<()> {
-    let text = fs::read_to_string(rt, name)?;
-    let mut total = 0u64;
+// Replays the file's scripts with a lookahead. The cases are read as in corpus; kept apart: a library for
+// both would be longer than this loop.
+fn replay_all(rt: &HostRuntime, text: &str, lookahead: &str) -> anyhow::Result<()> {
     let mut differ = 0u64;
-    for case in text.as_str().split("---\n") {
-        let Some((script, expected)) = case.split_once("= ") else {
-            return Err(anyhow!("a script has no answer"));
-        };
-        total = total.saturating_add(1);
-        if !replay(rt, total, option, script, expected)? {
+    for (i, case) in text.split("---\n").enumerate() {
+        let (script, expected) = case.split_once("= ").context("a script has no answer")?;
+        if !replay(rt, i.saturating_add(1), lookahead, script, expected)? {
             differ = differ.saturating_add(1);
         }
     }
-    let option = option.trim();
-    println!(rt; "{name}, {option}: {total} scripts replayed, {differ} differ")?;
+    let total = text.split("---\n").count();
+    println!(rt; "sets.txt, lookahead {lookahead}: {total} scripts replayed, {differ} differ")?;
     Ok(())
 }
 
 fn run(rt: &HostRuntime) -> anyhow::Result<()> {
-    replay_all(rt, "sets.txt", "lookahead walker\n")?;
-    replay_all(rt, "sets.txt", "lookahead table\n")?;
-    replay_all(rt, "sets.txt", "lookahead cache\n")
+    let text = fs::read_to_string(rt, "sets.txt")?;
+    for lookahead in ["walker", "table", "cache"] {
+        replay_all(rt, text.as_str(), lookahead)?;
+    }
+    Ok(())
 }
 
 fn main(rt: HostRuntime) -> anyhow::Result<()> {

@@ -1,3 +1,2 @@
 pub mod Taping
-pub mod Places
 pub mod Looking

@@ -1,73 +1,73 @@
--- Tapes, token by token.
-use Rattle.std.proofs.Common.{◌≡◌, ℕ, ◌+◌, ◌<◌, ◌≤◌, Bool, true, false, eqb, ◌⊎◌, List, length, get_or, sym, refl, ap, ◌∙◌, subst, inl, inr, arith}
-use mathlib.Core.Bool.{beq}
-use Rattle.std.specs.Prelude.{map, not}
-use Rattle.std.proofs.lemmas.List.{get_or-map}
-use Rattle.std.proofs.lemmas.Bool.{cases_eq, both_ways, eq-eqb, ne_eqb}
+-- Tapes, from what the tests of their tokens answer.
+use Rattle.std.proofs.Common.{◌≡◌, ℕ, ◌+◌, ◌<◌, Bool, true, false, List, [], ◌∷◌, ◌++◌, length, get_or, sym, refl, ap, ◌∙◌, subst, arith}
+use Rattle.std.specs.Prelude.{map, Decides, MatchBool, EachIndex}
+use Rattle.std.specs.List.{AllWithin, HoldsAt, enumerate_from}
+use Rattle.std.proofs.lemmas.Bool.{both_ways}
+use Rattle.std.proofs.lemmas.List.{get_or-map, get_or_append_left, get_or_push, length-map, length_push}
+use Rattle.std.proofs.lemmas.List.FromFn.{get_or-enumerate_from, length-enumerate_from}
 use Rattle.errors.specs.declared.denial.Denial.{Denial}
 use Rattle.errors.specs.declared.denial.Denial.TheVariants.{FaultyTape}
 use Rattle.errors.specs.Denials.{denial_number, First}
 use Rattle.token.specs.Tokens.{Fields, is_eof}
-use Rattle.token.specs.Tapes.{no_token, token_at, Placed, Sound, TapeFault}
+use Rattle.token.specs.Tapes.{no_token, token_at, Placed, EndsInEof, Sound, TapeFault}
 
--- the token read at a place
-pub read : {T : Type 0} (fields : T → Fields) (xs : List T) (k : ℕ) (t : T) → k < length xs → t ≡ get_or xs k t → token_at (map fields xs) k ≡ fields t
-read fields xs k t l is = get_or-map fields xs k t no_token l ∙ ap fields (sym is)
+-- what `all` answers: each element passes, or one fails
+abbrev pub AllAnswer : {X : Type 0} → (Yes No : X → Type 0) → List X → Bool → Type 0
+AllAnswer Yes No xs r = MatchBool r (AllWithin Yes xs 0 (length xs)) ((k : ℕ) × (k < length xs) × HoldsAt No xs k)
 
--- two tests are alike
-pub alike : (a b : Bool) → a ≡ b → not (beq a b) ≡ true → ⊥
-alike true true e h = both_ways false refl h
-alike true false e h = both_ways true e refl
-alike false true e h = both_ways true (sym e) refl
-alike false false e h = both_ways false refl h
+decides_all : {X P : Type 0} (Yes No : X → Type 0) (xs : List X) (d : X) (r : Bool) → AllAnswer Yes No xs r → (((k : ℕ) → k < length xs → Yes (get_or xs k d)) → P)
+    → (P → (k : ℕ) → k < length xs → No (get_or xs k d) → ⊥) → Decides r P
+decides_all Yes No xs d true all all_so some_not = ((λ e. all_so (λ k l. all k d (omega arith) l)), (λ p. refl))
+decides_all Yes No xs d false (k, l, fails) all_so some_not = ((λ e. absurd (both_ways false refl e)), (λ p. absurd (some_not p k l (fails d))))
 
-pub as_alike : (a b : Bool) → not (beq a b) ≡ false → a ≡ b
-as_alike true true h = refl
-as_alike true false h = absurd (both_ways true h refl)
-as_alike false true h = absurd (both_ways true h refl)
-as_alike false false h = refl
+-- the last token, and those before it
+module _ {T : Type 0} (fields : T → Fields) (xs before : List T) (last : T) (split : xs ≡ before ++ last ∷ []) where
+  long : length (map fields xs) ≡ length before + 1
+  long = length-map xs fields ∙ ap length split ∙ length_push before last
 
--- the first tokens are in their places, and EOF is among them only if it is the last of all
-pub record TapeSoFar (tape : List Fields) (upto : ℕ) : Type 0 where
-  pub placed : (k : ℕ) → k < upto → Placed (token_at tape k) k
-  pub eof : (k : ℕ) → k < upto → is_eof (token_at tape k).typ ≡ eqb (k + 1) (length tape)
+  at_last : (k : ℕ) → k + 1 ≡ length (map fields xs) → token_at (map fields xs) k ≡ fields last
+  at_last k e = get_or-map fields xs k last no_token (omega (arith, e, length-map xs fields)) ∙ ap fields (ap (λ ys. get_or ys k last) split ∙ get_or_push before last last k (omega (arith, e, long)))
 
-module _ (tape : List Fields) where
-  pub tape_none : TapeSoFar tape 0
-  tape_none = record { placed = λ k l. absurd (none k l); eof = λ k l. absurd (none k l) }
-    where
-      none : (k : ℕ) → k < 0 → ⊥
-      none k l = omega arith
+  at_before : (k : ℕ) → k < length before → token_at (map fields xs) k ≡ fields (get_or before k last)
+  at_before k l = get_or-map fields xs k last no_token (omega (arith, l, long, length-map xs fields)) ∙ ap fields (ap (λ ys. get_or ys k last) split ∙ get_or_append_left before (last ∷ []) last k l)
 
-  pub tape_more : (i : ℕ) → TapeSoFar tape i → Placed (token_at tape i) i → is_eof (token_at tape i).typ ≡ eqb (i + 1) (length tape) → TapeSoFar tape (i + 1)
-  tape_more i so p e = record { placed = λ k l. placed k l (cases_eq k i); eof = λ k l. eof k l (cases_eq k i) }
-    where
-      placed : (k : ℕ) → k < i + 1 → (k ≡ i) ⊎ (k ≡ i → ⊥) → Placed (token_at tape k) k
-      placed k l (inl is) = subst (λ j. Placed (token_at tape j) j) (sym is) p
-      placed k l (inr ne) = so.placed k (omega (arith, l, ne))
+  pub eof_last : EndsInEof (map fields xs) → is_eof (fields last).typ ≡ true
+  eof_last ends = ap (λ t. is_eof t.typ) (sym (at_last (length before) (sym long))) ∙ ends.last (length before) (sym long)
 
-      eof : (k : ℕ) → k < i + 1 → (k ≡ i) ⊎ (k ≡ i → ⊥) → is_eof (token_at tape k).typ ≡ eqb (k + 1) (length tape)
-      eof k l (inl is) = subst (λ j. is_eof (token_at tape j).typ ≡ eqb (j + 1) (length tape)) (sym is) e
-      eof k l (inr ne) = so.eof k (omega (arith, l, ne))
+  pub decides_ends : (r : Bool) → is_eof (fields last).typ ≡ true → AllAnswer (λ t. is_eof (fields t).typ ≡ false) (λ t. is_eof (fields t).typ ≡ true) before r → Decides r (EndsInEof (map fields xs))
+  decides_ends r eof all = decides_all (λ t. is_eof (fields t).typ ≡ false) (λ t. is_eof (fields t).typ ≡ true) before last r all
+      (λ none. record {
+        some = omega (arith, long);
+        last = λ k e. ap (λ t. is_eof t.typ) (at_last k e) ∙ eof;
+        before = λ k l. ap (λ t. is_eof t.typ) (at_before k (omega (arith, l, long))) ∙ none k (omega (arith, l, long));
+      })
+      (λ ends k l is. both_ways _ (ends.before k (omega (arith, l, long))) (ap (λ t. is_eof t.typ) (at_before k l) ∙ is))
 
-  pub tape_all : 0 < length tape → length tape ≤ 65535 → (i : ℕ) → length tape ≡ i → TapeSoFar tape i → Sound tape
-  tape_all some few i all so = record {
-    few = few;
-    ends = record {
-      some = some;
-      last = λ k e. so.eof k (omega (arith, e, all)) ∙ eq-eqb (k + 1) (length tape) e;
-      before = λ k l. so.eof k (omega (arith, l, all)) ∙ ne_eqb (k + 1) (length tape) (omega (arith, l));
-    };
-    placed = λ k l. so.placed k (omega (arith, l, all));
-  }
+-- each token in its place
+pub decides_placed : {T : Type 0} (fields : T → Fields) (xs : List T) (r : Bool) → AllAnswer (λ p. Placed (fields p.1) p.0) (λ p. Placed (fields p.1) p.0 → ⊥) (enumerate_from 0 xs) r
+    → Decides r (EachIndex (map fields xs) (λ k. Placed (token_at (map fields xs) k) k))
+decides_placed fields [] true all = ((λ e k l. absurd (omega (arith, l))), (λ each. refl))
+decides_placed fields [] false (k, l, fails) = absurd (omega (arith, l))
+decides_placed {T} fields (x ∷ ys) r all = decides_all P (λ p. P p → ⊥) (enumerate_from 0 xs) (0, x) r all
+    (λ each k l. let m : k < length xs = omega (arith, l, length-map xs fields) in
+    subst (λ t. Placed t k) (sym (read k m)) (subst P (at k m) (each k (omega (arith, m, count)))))
+    (λ each k l fails. let m : k < length xs = omega (arith, l, count) in
+    fails (subst P (sym (at k m)) (subst (λ t. Placed t k) (read k m) (each k (omega (arith, m, length-map xs fields))))))
+  where
+    xs : List T
+    xs = x ∷ ys
 
-  -- EOF in another place, or another type in the last
-  pub eof_wrong : (i : ℕ) → i < length tape → (is_eof (token_at tape i).typ ≡ eqb (i + 1) (length tape) → ⊥) → Sound tape → ⊥
-  eof_wrong i l wrong w = at (cases_eq (i + 1) (length tape))
-    where
-      at : (i + 1 ≡ length tape) ⊎ (i + 1 ≡ length tape → ⊥) → ⊥
-      at (inl e) = wrong (w.ends.last i e ∙ sym (eq-eqb (i + 1) (length tape) e))
-      at (inr ne) = wrong (w.ends.before i (omega (arith, l, ne)) ∙ sym (ne_eqb (i + 1) (length tape) ne))
+    P : ℕ × T → Type 0
+    P p = Placed (fields p.1) p.0
+
+    count : length (enumerate_from 0 xs) ≡ length xs
+    count = length-enumerate_from 0 xs
+
+    at : (k : ℕ) → k < length xs → get_or (enumerate_from 0 xs) k (0, x) ≡ (k, get_or xs k x)
+    at k l = get_or-enumerate_from 0 xs k (0, x) l ∙ ap (λ i. (i, get_or xs k x)) (omega arith)
+
+    read : (k : ℕ) → k < length xs → token_at (map fields xs) k ≡ fields (get_or xs k x)
+    read k l = get_or-map fields xs k x no_token l
 
 -- a faulty tape is denied
 pub faulty_first : (tape : List Fields) → (Sound tape → ⊥) → First (TapeFault tape) FaultyTape
@@ -76,7 +76,3 @@ faulty_first tape faulty = record { fits = faulty; none_before = before }
     before : (d : Denial) → denial_number d < 6 → TapeFault tape d → ⊥
     before FaultyTape l f = omega arith
     before _ l f = f
-
-pub no_tape_fault : (tape : List Fields) → Sound tape → (d : Denial) → TapeFault tape d → ⊥
-no_tape_fault tape w FaultyTape f = f w
-no_tape_fault tape w _ f = f

@@ -1,11 +1,8 @@
--- The fields of the two kinds.
-use Rattle.std.specs.Prelude.{Some, None}
-use Rattle.token.specs.declared.kinds.WordToken.{WordToken}
-use Rattle.token.specs.declared.kinds.LaneToken.{LaneToken}
+-- What a token of either kind says of itself, by what its kind keeps of a span.
+use Rattle.std.specs.Prelude.{Option}
+use Rattle.token.specs.declared.token_type.Span.{Span}
+use Rattle.token.specs.declared.kinds.CommonToken.{CommonToken}
 use Rattle.token.specs.Tokens.{Fields}
 
-abbrev pub word_fields : WordToken → Fields
-word_fields t = record { typ = t.token_type; channel = t.channel; index = t.index; position = (t.line, t.column); span = Some t.span }
-
-abbrev pub lane_fields : LaneToken → Fields
-lane_fields t = record { typ = t.token_type; channel = t.channel; index = t.index; position = (t.lane, t.count); span = None }
+abbrev pub common_fields : {S : Type 0} → (S → Option Span) → CommonToken S → Fields
+common_fields kept t = record { typ = t.token_type; channel = t.channel; index = t.index; position = (t.line, t.column); span = kept t.span }

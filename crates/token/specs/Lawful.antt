@@ -1,7 +1,7 @@
--- Why tables keep the law of streams: nothing here says what a stream is. The rules of a tape are propositions, so what a
--- checked table carries can be taken out.
-use mathlib.Core.Bool.{Bool-set}
+-- Why tables keep the law of streams: nothing here says what a stream is. The rules of a tape are propositions, so a
+-- checked table can carry them.
 use mathlib.Core.Logic.{∥∥₁_elim}
+use mathlib.Core.Bool.{Bool-set}
 use native.Mathlib.Bridge.{le_prop}
 use Rattle.std.proofs.Common.{◌≡◌, ℕ, ◌+◌, ◌-◌, ◌<◌, List, length, drop, Option, Some, sym, ap, ◌∙◌, arith}
 use Rattle.std.proofs.Props.{props}
@@ -24,11 +24,8 @@ ends_prop ts a b i = record {
   before = λ k l. Bool-set _ _ (a.before k l) (b.before k l) i;
 }
 
-sound_prop : (tape : List Fields) → IsProp (Sound tape)
+pub sound_prop : (tape : List Fields) → IsProp (Sound tape)
 sound_prop tape a b i = record { few = le_prop a.few b.few i; ends = ends_prop tape a.ends b.ends i; placed = λ k l. placed_prop (token_at tape k) k (a.placed k l) (b.placed k l) i }
-
-pub sound_of : (tape : List Fields) → ∥ Sound tape ∥₁ → Sound tape
-sound_of tape s = ∥∥₁_elim s (sound_prop tape) (λ w. w)
 
 -- from place p of a tape on
 module _ (tape : List Fields) (p : ℕ) (l : p < length tape) (w : Sound tape) where
@@ -63,6 +60,10 @@ module _ (tape : List Fields) (p : ℕ) (l : p < length tape) (w : Sound tape) w
     few = omega (arith, left, w.few);
   }
 
+-- a sound tape is one fact, however it is known
+pub sound_of : (tape : List Fields) → ∥ Sound tape ∥₁ → Sound tape
+sound_of tape s = ∥∥₁_elim s (sound_prop tape) (λ w. w)
+
 -- so a table does
-pub table_shows : {T : Type 0} (fields : T → Fields) (xs : List T) (p : ℕ) → p < length xs → ∥ Sound (map fields xs) ∥₁ → Shows (map fields xs) (drop p (map fields xs))
-table_shows fields xs p l s = shows_from (map fields xs) p (omega (arith, l, length-map xs fields)) (sound_of (map fields xs) s)
+pub table_shows : {T : Type 0} (fields : T → Fields) (xs : List T) (p : ℕ) → p < length xs → Sound (map fields xs) → Shows (map fields xs) (drop p (map fields xs))
+table_shows fields xs p l s = shows_from (map fields xs) p (omega (arith, l, length-map xs fields)) s

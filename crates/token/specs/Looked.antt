@@ -1,14 +1,15 @@
 -- How far a filter has looked.
-use Rattle.std.specs.Prelude.{◌≡◌, ℕ, ◌+◌, ◌-◌, ◌<◌, ◌≤◌, true, List, length, take}
+use Rattle.std.specs.Prelude.{◌≡◌, ℕ, ◌-◌, ◌<◌, ◌≤◌, true, List, length, take}
 use Rattle.token.specs.Tokens.{Fields}
 use Rattle.token.specs.Tapes.{token_at}
 use Rattle.token.specs.Streams.{capped, visible, filtered}
 
--- Of the first `ahead` tokens below, `count` are visible, and the last of them is one of these.
+-- Token number `ahead` below, counted from 1, is visible, and it is number `count` of the visible ones.
 pub record Looked (below : List Fields) (count ahead : ℕ) : Type 0 where
+  pub some : 0 < ahead
   pub within : ahead ≤ length below
   pub seen : length (filtered (take ahead below)) ≡ count
-  pub last : (k : ℕ) → k + 1 ≡ ahead → visible (token_at below k) ≡ true
+  pub last : visible (token_at below (ahead - 1)) ≡ true
 
 -- Token number j below, counted from 1, is the next visible one after the first `from`.
 pub record IsNext (below : List Fields) (from j : ℕ) : Type 0 where

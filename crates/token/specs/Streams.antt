@@ -16,6 +16,11 @@ pub record Shows (tape shown : List Fields) : Type 0 where
   pub named : (k : ℕ) → k < length shown → Named tape (token_at shown k)
   pub few : length shown ≤ 65535
 
+-- What every question leaves as it was: the tape, and what is shown.
+pub record Keeps {S : Type 0} (tape shown : S → List Fields) (old new : S) : Type 0 where
+  pub same_tape : tape new ≡ tape old
+  pub same_shown : shown new ≡ shown old
+
 -- place k of a list, or the last place
 abbrev pub capped : ℕ → List Fields → ℕ
 capped k ts = if nat_lt k (length ts) then k else length ts - 1

@@ -1,8 +1,8 @@
 // What a filter shows.
-ghost use Rattle.std.specs.Prelude.{◌≡◌, ◌+◌, ◌-◌, ◌<◌, ◌≤◌, List, length, drop, pos};
-ghost use Rattle.token.specs.Tokens.{Fields};
-ghost use Rattle.token.specs.Tapes.{token_at};
-ghost use Rattle.token.specs.Streams.{filtered, shown_at, visible};
+ghost use Rattle.std.specs.Prelude.{◌≡◌, ◌<◌, ◌≤◌, List, length, drop, pos};
+ghost use Rattle.std.specs.Option.{ForSome};
+ghost use Rattle.token.specs.Tokens.{Fields, is_eof};
+ghost use Rattle.token.specs.Streams.{Keeps, filtered, shown_at, visible};
 ghost use Rattle.token.specs.Filtering.{filter_shows};
 ghost use Rattle.token.specs.Looked.{Looked, IsNext, IsFound};
 
@@ -18,49 +18,56 @@ fn is_visible<T: Token>(t: &T) -> bool
     t.token_type().is_eof() || t.channel() == 0
 }
 
+// Whether token number j, counted from 1, is EOF.
+fn is_eof_at<'a, S: TokenStream<'a>>(below: &mut S, j: u16) -> bool
+    ensures keeps { Keeps S.tape S.shown below.old below.new }
+    ensures eof { result ≡ is_eof (shown_at (S.shown below.old) (pos j)).typ }
+{
+    below.la(i32::from(j)).is_eof()
+}
+
 // The number, counted from 1, of the next visible token after the first `from` of the stream.
-fn next_visible<'a, S: TokenStream<'a>>(below: &mut S, from: usize) -> usize
+fn next_visible<'a, S: TokenStream<'a>>(below: &mut S, from: u16) -> u16
     requires { from < length (S.shown below.old) }
-    ensures keeps_tape { S.tape below.new ≡ S.tape below.old }
-    ensures keeps_shown { S.shown below.new ≡ S.shown below.old }
+    ensures keeps { Keeps S.tape S.shown below.old below.new }
     ensures next { IsNext (S.shown below.old) from result }
 {
-    let mut j = from;
-    loop {
+    // Kept as a loop: looking may change the stream, which no closure of a proved chain may.
+    let mut j = from + 1;
+    while !is_visible(below.lt(i32::from(j))) {
         j += 1;
-        if is_visible(below.lt(j as i32)) {
-            return j;
-        }
     }
+    j
 }
 
 // Looks on until the k-th visible token, or EOF if there are fewer, is the last that was looked at.
-fn look_on<'a, S: TokenStream<'a>>(below: &mut S, seen: Sight, k: usize) -> Sight
-    requires looked { Looked (S.shown below.old) seen.count seen.ahead }
-    requires more { seen.count ≤ k }
+fn look_on<'a, S: TokenStream<'a>>(below: &mut S, seen: Option<Sight>, k: usize) -> Sight
+    requires looked { ForSome seen (λ s. Looked (S.shown below.old) s.count s.ahead) }
+    requires more { ForSome seen (λ s. s.count ≤ k) }
     requires some { 0 < k }
-    ensures keeps_tape { S.tape below.new ≡ S.tape below.old }
-    ensures keeps_shown { S.shown below.new ≡ S.shown below.old }
+    ensures keeps { Keeps S.tape S.shown below.old below.new }
     ensures looked { Looked (S.shown below.old) result.count result.ahead }
     ensures not_past { result.count ≤ k }
     ensures found { IsFound (S.shown below.old) k result.ahead }
 {
-    let mut count = seen.count;
-    let mut ahead = seen.ahead;
-    loop {
-        if ahead > 0 && count == k {
-            return Sight { count, ahead };
-        }
-        if ahead > 0 && below.la(ahead as i32).is_eof() {
-            return Sight { count, ahead };
-        }
-        ahead = next_visible(below, ahead);
-        count += 1;
+    let mut sight = match seen {
+        Some(sight) => sight,
+        None => Sight {
+            count: 1,
+            ahead: next_visible(below, 0),
+        },
+    };
+    while sight.count < k && !is_eof_at(below, sight.ahead) {
+        sight = Sight {
+            count: sight.count + 1,
+            ahead: next_visible(below, sight.ahead),
+        };
     }
+    sight
 }
 
 // Drops the first n tokens of the stream, among which is no EOF.
-fn pass<'a, S: TokenStream<'a>>(below: &mut S, n: usize)
+fn pass<'a, S: TokenStream<'a>>(below: &mut S, n: u16)
     requires { n < length (S.shown below.old) }
     ensures keeps_tape { S.tape below.new ≡ S.tape below.old }
     ensures drops { S.shown below.new ≡ drop n (S.shown below.old) }
@@ -75,21 +82,7 @@ fn at_least_one(k: i32) -> usize
     ensures some { 0 < result }
     ensures alike { (ts : List Fields) → 0 < length ts → shown_at ts (pos result) ≡ shown_at ts k }
 {
-    if k < 1 { 1 } else { k as usize }
-}
-
-impl Sight {
-    // This sight if it goes no further than the k-th token that is shown, else none.
-    fn up_to(self, k: usize) -> Sight
-        ensures not_past { result.count ≤ k }
-        ensures looked { (ts : List Fields) → Looked ts self.count self.ahead → Looked ts result.count result.ahead }
-    {
-        if self.count > k {
-            Sight { count: 0, ahead: 0 }
-        } else {
-            self
-        }
-    }
+    usize::try_from(k).unwrap_or(0).max(1)
 }
 
 impl<'a, S: TokenStream<'a>> Filter<'a, S> {
@@ -98,21 +91,21 @@ impl<'a, S: TokenStream<'a>> Filter<'a, S> {
     {
         Filter {
             below,
-            sight: Sight { count: 0, ahead: 0 },
+            sight: None,
             tape: PhantomData,
         }
     }
 
     // Which token below, counted from 1, is the k-th that is shown; EOF if there are fewer.
     fn seek(&mut self, k: i32) -> i32
-        ensures keeps_tape { S.tape self.new.below ≡ S.tape self.old.below }
-        ensures keeps_shown { S.shown self.new.below ≡ S.shown self.old.below }
+        ensures keeps { Keeps S.tape S.shown self.old.below self.new.below }
         ensures found { shown_at (S.shown self.old.below) result ≡ shown_at (filtered (S.shown self.old.below)) k }
     {
         let k = at_least_one(k);
-        let seen = self.sight.up_to(k);
-        self.sight = look_on(&mut self.below, seen, k);
-        self.sight.ahead as i32
+        let seen = self.sight.filter(|s| s.count <= k);
+        let sight = look_on(&mut self.below, seen, k);
+        self.sight = Some(sight);
+        i32::from(sight.ahead)
     }
 }
 
@@ -136,11 +129,10 @@ impl<'a, S: TokenStream<'a>> IntStream for Filter<'a, S> {
     // Drops the hidden tokens before the first that is shown, too.
     fn consume(&mut self) {
         let first = next_visible(&mut self.below, 0);
-        if self.below.la(first as i32).is_eof() {
-            return;
+        if !is_eof_at(&mut self.below, first) {
+            pass(&mut self.below, first);
+            self.sight = None;
         }
-        pass(&mut self.below, first);
-        self.sight = Sight { count: 0, ahead: 0 };
     }
 }
 

@@ -1,38 +1,59 @@
 // The two kinds of token: words of a text, and events of a lane.
-ghost use Rattle.std.specs.Prelude.{true, false};
-ghost use Rattle.token.specs.Kinds.{word_fields, lane_fields};
+ghost use Rattle.std.specs.Prelude.{◌≡◌, true, false, Option, Some, None};
+ghost use Rattle.token.specs.declared.token_type.Span.{Span};
+ghost use Rattle.token.specs.Kinds.{common_fields};
 
 use crate::token::{Token, TokenFactory};
 use crate::token_type::{Span, TokenType};
 
+// What tokens of a kind keep of the span asked for: a word all of it, an event nothing.
+pub trait KeptSpan {
+    ghost kept: { Self → Option Span };
+
+    fn kept(&self) -> Option<Span>
+        ensures { result ≡ kept self.now };
+}
+
 #[derive(Clone, Copy, PartialEq, Eq, Debug)]
-pub struct WordToken {
+pub struct CommonToken<S> {
     pub token_type: TokenType,
     pub channel: u8,
     pub index: Option<u16>,
     pub line: u32,
     pub column: u32,
-    pub span: Span,
+    pub span: S,
 }
+
+pub type WordToken = CommonToken<Span>;
 
 // An event's line is its lane, its column a count.
-#[derive(Clone, Copy, PartialEq, Eq, Debug)]
-pub struct LaneToken {
-    pub token_type: TokenType,
-    pub channel: u8,
-    pub index: Option<u16>,
-    pub lane: u32,
-    pub count: u32,
-}
+pub type LaneToken = CommonToken<()>;
 
+// Kept as two factories: a generic one could be written as a value only with its kind beside it.
 #[derive(Clone, Copy, PartialEq, Eq, Debug)]
 pub struct WordFactory;
 
 #[derive(Clone, Copy, PartialEq, Eq, Debug)]
 pub struct LaneFactory;
 
-impl Token for WordToken {
-    ghost fields = { word_fields };
+impl KeptSpan for Span {
+    ghost kept = { Some };
+
+    fn kept(&self) -> Option<Span> {
+        Some(*self)
+    }
+}
+
+impl KeptSpan for () {
+    ghost kept = { λ _. None };
+
+    fn kept(&self) -> Option<Span> {
+        None
+    }
+}
+
+impl<S: KeptSpan> Token for CommonToken<S> {
+    ghost fields = { common_fields S.kept };
 
     fn token_type(&self) -> TokenType {
         self.token_type
@@ -51,31 +72,7 @@ impl Token for WordToken {
     }
 
     fn span(&self) -> Option<Span> {
-        Some(self.span)
-    }
-}
-
-impl Token for LaneToken {
-    ghost fields = { lane_fields };
-
-    fn token_type(&self) -> TokenType {
-        self.token_type
-    }
-
-    fn channel(&self) -> u8 {
-        self.channel
-    }
-
-    fn token_index(&self) -> Option<u16> {
-        self.index
-    }
-
-    fn position(&self) -> (u32, u32) {
-        (self.lane, self.count)
-    }
-
-    fn span(&self) -> Option<Span> {
-        None
+        self.span.kept()
     }
 }
 
@@ -122,8 +119,9 @@ impl TokenFactory for LaneFactory {
             token_type,
             channel,
             index,
-            lane,
-            count,
+            line: lane,
+            column: count,
+            span: (),
         }
     }
 }

@@ -1,7 +1,7 @@
 // Streams of tokens.
 ghost use Rattle.std.specs.Prelude.{◌≡◌, Some, List, pos};
 ghost use Rattle.token.specs.Tokens.{Fields};
-ghost use Rattle.token.specs.Streams.{Shows, shown_at, tape_at, passed};
+ghost use Rattle.token.specs.Streams.{Shows, Keeps, shown_at, tape_at, passed};
 
 use crate::token::{Token, TokenFactory};
 use crate::token_type::TokenType;
@@ -17,14 +17,12 @@ pub trait IntStream {
 
     // The type of the k-th token ahead, counted from 1.
     fn la(&mut self, k: i32) -> TokenType
-        ensures keeps_tape { tape self.new ≡ tape self.old }
-        ensures keeps_shown { shown self.new ≡ shown self.old }
+        ensures keeps { Keeps tape shown self.old self.new }
         ensures type_ahead { result ≡ (shown_at (shown self.old) k).typ };
 
     // The own index of the first token shown.
     fn index(&mut self) -> u16
-        ensures keeps_tape { tape self.new ≡ tape self.old }
-        ensures keeps_shown { shown self.new ≡ shown self.old }
+        ensures keeps { Keeps tape shown self.old self.new }
         ensures own_index { (shown_at (shown self.old) (pos 1)).index ≡ Some result };
 
     fn consume(&mut self)
@@ -43,8 +41,7 @@ pub trait TokenStream<'a>: IntStream {
 
     // The k-th token ahead, counted from 1.
     fn lt(&mut self, k: i32) -> &'a Self::Tok
-        ensures keeps_tape { Self.tape self.new ≡ Self.tape self.old }
-        ensures keeps_shown { Self.shown self.new ≡ Self.shown self.old }
+        ensures keeps { Keeps Self.tape Self.shown self.old self.new }
         ensures token_ahead { Self.Tok.fields result.now ≡ shown_at (Self.shown self.old) k };
 
     // The token at a place of the tape; outside it EOF.

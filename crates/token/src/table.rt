@@ -1,6 +1,7 @@
 // A table of tokens as a stream.
-ghost use Rattle.std.specs.Prelude.{◌≡◌, ◌<◌, length, map, drop};
+ghost use Rattle.std.specs.Prelude.{◌<◌, length, map};
 ghost use Rattle.token.specs.Tapes.{Sound};
+ghost use Rattle.token.specs.Lawful.{sound_prop};
 
 use crate::token::Token;
 
@@ -10,6 +11,6 @@ pub struct TokenTable<'a, T: Token, F> {
     pub(crate) tokens: &'a [T],
     pub(crate) place: usize,
     pub(crate) factory: F,
-    ghost sound: { ∥ Sound (map T.fields tokens.now) ∥₁ },
+    ghost sound: { Sound (map T.fields tokens.now) } by { sound_prop (map T.fields tokens.now) },
     ghost inside: { place < length tokens.now },
 }

@@ -1,7 +1,6 @@
 // What a table of tokens shows.
-ghost use Rattle.std.specs.Prelude.{◌≡◌, ◌<◌, length, map, drop};
-ghost use Rattle.token.specs.Tapes.{token_at};
-ghost use Rattle.token.specs.Streams.{shown_at, tape_at};
+ghost use Rattle.std.specs.Prelude.{◌≡◌, map, drop};
+ghost use Rattle.token.specs.Streams.{shown_at};
 ghost use Rattle.token.specs.Lawful.{table_shows};
 
 use crate::stream::{IntStream, TokenStream};
@@ -14,9 +13,9 @@ impl<'a, T: Token, F> TokenTable<'a, T, F> {
     fn ahead(&self, k: i32) -> &'a T
         ensures { T.fields result.now ≡ shown_at (drop self.now.place (map T.fields self.now.tokens.now)) k }
     {
-        let last = self.tokens.len() - self.place - 1;
-        let step = if k < 1 { 0 } else { (k as usize - 1).min(last) };
-        &self.tokens[self.place + step]
+        let left = &self.tokens[self.place..];
+        let steps = usize::try_from(k).unwrap_or(0).saturating_sub(1);
+        &left[steps.min(left.len() - 1)]
     }
 }
 
@@ -55,8 +54,7 @@ impl<'a, T: Token + 'a, F: TokenFactory<Tok = T>> TokenStream<'a> for TokenTable
 
     fn get(&self, i: i32) -> &'a T {
         let last = self.tokens.len() - 1;
-        let place = if i < 0 { last } else { (i as usize).min(last) };
-        &self.tokens[place]
+        &self.tokens[usize::try_from(i).unwrap_or(last).min(last)]
     }
 
     fn factory(&self) -> &F {

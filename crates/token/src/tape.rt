@@ -1,7 +1,7 @@
 // The check of a tape.
-ghost use Rattle.std.specs.Prelude.{◌≡◌, ◌<◌, ◌≤◌, length, map, Decides, pos, IfOk};
+ghost use Rattle.std.specs.Prelude.{◌≡◌, map, Decides, EachIndex, IfOk};
 ghost use Rattle.errors.specs.Denials.{DeniesFirst};
-ghost use Rattle.token.specs.Tapes.{Placed, Sound, TapeFault};
+ghost use Rattle.token.specs.Tapes.{token_at, Placed, EndsInEof, Sound, TapeFault};
 
 use crate::table::TokenTable;
 use crate::token::Token;
@@ -14,31 +14,31 @@ fn is_placed<T: Token>(t: &T, k: usize) -> bool
     ensures { Decides result (Placed (T.fields t.now) k) }
 {
     let (line, column) = t.position();
-    match t.token_index() {
-        Some(i) => i as usize == k && line <= 1_000_000 && column <= 1_000_000,
-        None => false,
-    }
+    t.token_index().map(usize::from) == Some(k) && line <= 1_000_000 && column <= 1_000_000
+}
+
+// Whether EOF stands last and nowhere else.
+fn ends_in_eof<T: Token>(tokens: &[T]) -> bool
+    ensures { Decides result (EndsInEof (map T.fields tokens.now)) }
+{
+    let Some((last, before)) = tokens.split_last() else {
+        return false;
+    };
+    last.token_type().is_eof() && before.iter().all(|t| !t.token_type().is_eof())
+}
+
+// Whether each token is in its place.
+fn all_placed<T: Token>(tokens: &[T]) -> bool
+    ensures { let tape = map T.fields tokens.now in Decides result (EachIndex tape (λ k. Placed (token_at tape k) k)) }
+{
+    tokens.iter().enumerate().all(|(k, t)| is_placed(t, k))
 }
 
 // Whether the tokens are a tape.
 fn is_tape<T: Token>(tokens: &[T]) -> bool
     ensures { Decides result (Sound (map T.fields tokens.now)) }
 {
-    let count = tokens.len();
-    if count == 0 || count > MAX_TOKENS {
-        return false;
-    }
-    for k in 0..count {
-        let t = &tokens[k];
-        if !is_placed(t, k) {
-            return false;
-        }
-        let is_last = k + 1 == count;
-        if t.token_type().is_eof() != is_last {
-            return false;
-        }
-    }
-    true
+    tokens.len() <= MAX_TOKENS && ends_in_eof(tokens) && all_placed(tokens)
 }
 
 impl<'a, T: Token, F: Drop> TokenTable<'a, T, F> {

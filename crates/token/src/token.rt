@@ -33,6 +33,7 @@ pub trait TokenFactory {
 
     ghost has_span: { Bool };
 
+    // Kept as five parts, as in ANTLR: a struct of them would be a token once more.
     fn create(
         &self,
         token_type: TokenType,

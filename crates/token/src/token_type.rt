@@ -2,30 +2,30 @@
 ghost use Rattle.std.specs.Prelude.{◌≡◌};
 ghost use Rattle.token.specs.Tokens.{type_number, is_eof};
 
+// Kept as an enum of its own: EOF is a type of token, not the want of one.
 #[derive(Clone, Copy, PartialEq, Eq, Debug)]
 pub enum TokenType {
     Eof,
     Of(u8),
 }
 
-impl TokenType {
-    // -1 for EOF.
-    pub fn number(self) -> i32
-        ensures { result ≡ type_number self }
-    {
-        match self {
+// The number of a type: -1 for EOF.
+impl From<TokenType> for i32 {
+    ghost from_gives = { λ t n. n ≡ type_number t };
+
+    fn from(t: TokenType) -> i32 {
+        match t {
             TokenType::Eof => -1,
-            TokenType::Of(n) => n as i32,
+            TokenType::Of(n) => i32::from(n),
         }
     }
+}
 
+impl TokenType {
     pub fn is_eof(self) -> bool
         ensures { result ≡ is_eof self }
     {
-        match self {
-            TokenType::Eof => true,
-            TokenType::Of(_) => false,
-        }
+        matches!(self, TokenType::Eof)
     }
 }
 

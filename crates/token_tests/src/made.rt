@@ -1,13 +1,9 @@
 // What the factories make.
+use crate::words::*;
 use std::test::*;
 use token::kinds::{LaneFactory, WordFactory};
 use token::token::{Token, TokenFactory};
 use token::token_type::{Span, TokenType};
-
-const NOWHERE: Span = Span {
-    start: -1,
-    stop: -1,
-};
 
 #[test]
 fn a_word(rt: HostRuntime) {
@@ -16,7 +12,7 @@ fn a_word(rt: HostRuntime) {
         stop: 12,
     };
     let t = WordFactory.create(TokenType::Of(7), 1, Some(3), (4, 5), given);
-    assert_eq!(rt; t.token_type().number(), 7);
+    assert_eq!(rt; i32::from(t.token_type()), 7);
     assert_eq!(rt; t.channel(), 1);
     assert_eq!(rt; t.token_index(), Some(3));
     assert_eq!(rt; t.position(), (4, 5));
@@ -26,7 +22,7 @@ fn a_word(rt: HostRuntime) {
 #[test]
 fn a_made_up_word(rt: HostRuntime) {
     let t = WordFactory.create(TokenType::Of(255), 0, None, (4, 5), NOWHERE);
-    assert_eq!(rt; t.token_type().number(), 255);
+    assert_eq!(rt; i32::from(t.token_type()), 255);
     assert_eq!(rt; t.token_index(), None);
     assert_eq!(rt; t.span(), Some(NOWHERE));
 }
@@ -39,7 +35,7 @@ fn an_event(rt: HostRuntime) {
         stop: 12,
     };
     let t = LaneFactory.create(TokenType::Of(7), 1, Some(3), (4, 5), given);
-    assert_eq!(rt; t.token_type().number(), 7);
+    assert_eq!(rt; i32::from(t.token_type()), 7);
     assert_eq!(rt; t.channel(), 1);
     assert_eq!(rt; t.token_index(), Some(3));
     assert_eq!(rt; t.position(), (4, 5));
@@ -49,7 +45,7 @@ fn an_event(rt: HostRuntime) {
 #[test]
 fn a_made_up_event(rt: HostRuntime) {
     let t = LaneFactory.create(TokenType::Eof, 0, None, (4, 5), NOWHERE);
-    assert_eq!(rt; t.token_type().number(), -1);
+    assert_eq!(rt; i32::from(t.token_type()), -1);
     assert_eq!(rt; t.token_index(), None);
     assert_eq!(rt; t.span(), None);
 }

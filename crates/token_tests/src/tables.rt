@@ -5,7 +5,7 @@ use token::kinds::{LaneFactory, WordFactory};
 use token::stream::{IntStream, TokenStream};
 use token::table::TokenTable;
 use token::token::{Token, TokenFactory};
-use token::token_type::{Span, TokenType};
+use token::token_type::TokenType;
 
 #[test]
 fn what_is_ahead(rt: HostRuntime) -> Result<(), Fail> {
@@ -13,37 +13,30 @@ fn what_is_ahead(rt: HostRuntime) -> Result<(), Fail> {
     let mut s = TokenTable::check(&tape, WordFactory)?;
     shows(&rt, &mut s, &[(5, 0), (6, 1), (7, 2), (-1, 3)]);
     for k in [i32::MIN, -1, 0, 1] {
-        assert_eq!(rt; s.la(k).number(), 5);
+        assert_eq!(rt; i32::from(s.la(k)), 5);
         assert_eq!(rt; s.lt(k).token_index(), Some(0));
     }
     s.consume();
     shows(&rt, &mut s, &[(6, 1), (7, 2), (-1, 3)]);
-    assert_eq!(rt; s.la(0).number(), 6);
+    assert_eq!(rt; i32::from(s.la(0)), 6);
     Ok(())
 }
 
 // A tape of events, whose own index each answers, until EOF stays.
 #[test]
 fn consuming_stops_at_eof(rt: HostRuntime) -> Result<(), Fail> {
-    let make = |n: u8, i: u16| {
-        let nowhere = Span {
-            start: -1,
-            stop: -1,
-        };
-        let typ = if n == 0 {
-            TokenType::Eof
-        } else {
-            TokenType::Of(n)
-        };
-        LaneFactory.create(typ, 0, Some(i), (0, 0), nowhere)
-    };
-    let tape = [make(5, 0), make(6, 1), make(0, 2)];
+    let make = |token_type, i| LaneFactory.create(token_type, 0, Some(i), (0, 0), NOWHERE);
+    let tape = [
+        make(TokenType::Of(5), 0),
+        make(TokenType::Of(6), 1),
+        make(TokenType::Eof, 2),
+    ];
     let mut s = TokenTable::check(&tape, LaneFactory)?;
     for index in [0, 1, 2, 2, 2] {
         assert_eq!(rt; s.index(), index);
         s.consume();
     }
-    assert_eq!(rt; s.la(1).number(), -1);
+    assert_eq!(rt; i32::from(s.la(1)), -1);
     Ok(())
 }
 

@@ -1,19 +1,19 @@
 // Tapes that are accepted, and tapes that are denied.
 use crate::words::*;
+use errors::denial::Denial;
 use std::test::*;
 use token::kinds::{LaneFactory, LaneToken, WordToken};
 use token::table::TokenTable;
 use token::token::Token;
 use token::token_type::TokenType;
 
-const FAULTY: u8 = 6;
+const FAULTY: Result<(), u8> = Err(6);
 
-// The number of the denial, 0 for an accepted tape.
-fn verdict<T: Token>(tokens: &[T]) -> u8 {
-    match TokenTable::check(tokens, LaneFactory) {
-        Ok(_) => 0,
-        Err(denial) => denial.number(),
-    }
+// Whether the tape is accepted, or else the number of the denial.
+fn verdict<T: Token>(tokens: &[T]) -> Result<(), u8> {
+    TokenTable::check(tokens, LaneFactory)
+        .map(drop)
+        .map_err(Denial::number)
 }
 
 // An EOF alone at this place, as an event.
@@ -22,8 +22,9 @@ fn event_at(index: Option<u16>, lane: u32, count: u32) -> LaneToken {
         token_type: TokenType::Eof,
         channel: 0,
         index,
-        lane,
-        count,
+        line: lane,
+        column: count,
+        span: (),
     }
 }
 
@@ -31,9 +32,9 @@ fn event_at(index: Option<u16>, lane: u32, count: u32) -> LaneToken {
 fn where_eof_stands(rt: HostRuntime) {
     let none: [WordToken; 0] = [];
     assert_eq!(rt; verdict(&none), FAULTY);
-    assert_eq!(rt; verdict(&[eof(0)]), 0);
-    assert_eq!(rt; verdict(&[word(1, 0), hidden(2, 1), eof(2)]), 0);
-    assert_eq!(rt; verdict(&[eof_on_channel_1(0)]), 0);
+    assert_eq!(rt; verdict(&[eof(0)]), Ok(()));
+    assert_eq!(rt; verdict(&[word(1, 0), hidden(2, 1), eof(2)]), Ok(()));
+    assert_eq!(rt; verdict(&[eof_on_channel_1(0)]), Ok(()));
     assert_eq!(rt; verdict(&[word(1, 0)]), FAULTY);
     assert_eq!(rt; verdict(&[eof(0), eof(1)]), FAULTY);
     assert_eq!(rt; verdict(&[eof(0), word(1, 1)]), FAULTY);
@@ -51,8 +52,8 @@ fn own_indexes(rt: HostRuntime) {
 #[test]
 fn lines_and_columns(rt: HostRuntime) {
     for (line, column, want) in [
-        (0, 0, 0),
-        (1_000_000, 1_000_000, 0),
+        (0, 0, Ok(())),
+        (1_000_000, 1_000_000, Ok(())),
         (1_000_001, 0, FAULTY),
         (0, 1_000_001, FAULTY),
         (u32::MAX, 0, FAULTY),
@@ -64,7 +65,7 @@ fn lines_and_columns(rt: HostRuntime) {
 // The longest tape, and one token more.
 #[test]
 fn lengths(rt: HostRuntime) -> Result<(), Fail> {
-    for (last, want) in [(65_534, 0), (65_535, FAULTY)] {
+    for (last, want) in [(65_534, Ok(())), (65_535, FAULTY)] {
         let mut tokens = Vec::new(rt.alloc());
         for i in 0..last {
             tokens.push(word(1, i))?;

@@ -6,16 +6,21 @@ use token::stream::TokenStream;
 use token::token::Token;
 use token::token_type::{Span, TokenType};
 
+pub(crate) const NOWHERE: Span = Span {
+    start: -1,
+    stop: -1,
+};
+
 fn at(token_type: TokenType, channel: u8, index: u16) -> WordToken {
     WordToken {
         token_type,
         channel,
         index: Some(index),
         line: 1,
-        column: index as u32,
+        column: u32::from(index),
         span: Span {
-            start: index as i32,
-            stop: index as i32,
+            start: i32::from(index),
+            stop: i32::from(index),
         },
     }
 }
@@ -36,15 +41,12 @@ pub(crate) fn eof_on_channel_1(index: u16) -> WordToken {
     at(TokenType::Eof, 1, index)
 }
 
-// The types ahead and the own indexes of the tokens, and that nothing but EOF follows.
+// The types ahead and the own indexes of the tokens, of which the last stays.
 pub(crate) fn shows<'a, S: TokenStream<'a>>(rt: &impl Abort, s: &mut S, want: &[(i32, u16)]) {
-    let mut k = 1;
-    for (number, index) in want {
-        assert_eq!(rt; s.la(k).number(), *number, "at {k}");
-        assert_eq!(rt; s.lt(k).token_type().number(), *number, "at {k}");
+    for (k, (number, index)) in (1..).zip(want.iter().chain(want.last())) {
+        assert_eq!(rt; i32::from(s.la(k)), *number, "at {k}");
+        assert_eq!(rt; i32::from(s.lt(k).token_type()), *number, "at {k}");
         assert_eq!(rt; s.lt(k).token_index(), Some(*index), "at {k}");
-        k = k.wrapping_add(1);
     }
-    assert!(rt; s.la(k).is_eof());
     assert!(rt; s.la(i32::MAX).is_eof());
 }

@@ -1,40 +1,38 @@
 use Rattle.std.proofs.Common.{◌+◌, get_or, refl, sym, ◌∙◌, subst, Decides, arith}
-use Rattle.errors.proofs.Firsts.{accepts, denies}
-use Rattle.std.proofs.lemmas.Result.{err_from_is_err_and}
+use Rattle.errors.proofs.Firsts.{accepts}
 use Rattle.atn.specs.Checked.{net_of}
 use Rattle.ll1_analyzer.specs.Sets.{Within, Recovery}
 use Rattle.ll1_analyzer.specs.Answers.{HoldsExactly}
-use Rattle.ll1_analyzer.specs.Chains.{ChainFault}
+use Rattle.ll1_analyzer.specs.Chains.{ChainFault, follow_states}
+use Rattle.ll1_analyzer.proofs.Denying.{answers_denied}
+use Rattle.ll1_analyzer.proofs.Keeping.{keeps_both}
 use Rattle.ll1_analyzer.proofs.Joining.{WithinBefore, joined_more, recovered}
 use Rattle.ll1_analyzer.proofs.sets.get_error_recovery_set.Goals as goal
 
 pub loop-f-preserved : goal.loop-f-preserved
 loop-f-preserved g c =
     let n = net_of (g.L.Lookahead.atn c.args.l.now) in
-    let fs = c.states-f-items.result.now in
+    let fs = c.as_slice-f-items.result.now in
     let i = c.loop-f.f-index in
     record {
-      net = c.within.ensures.keeps_net ∙ c.loop-f.invariant.net;
-      agreement = λ h. c.within.ensures.keeps_agreement (c.loop-f.invariant.agreement h);
+      keeps = keeps_both c.loop-f.invariant.keeps c.within.ensures.keeps;
       joined = λ h x. subst (λ b. Decides b (WithinBefore n fs (i + 1) x)) (sym (c.add_set.ensures x))
           (joined_more n fs x i _ _ c.loop-f-test.true (c.loop-f.invariant.joined h x)
-          (subst (λ a. HoldsExactly c.within.result (Within (net_of a) (get_or fs i 0))) c.loop-f.invariant.net (c.within.ensures.answers (c.loop-f.invariant.agreement h)) x));
+          (subst (λ a. HoldsExactly c.within.result (Within (net_of a) (get_or fs i 0))) c.loop-f.invariant.keeps.net (c.within.ensures.answers (c.loop-f.invariant.keeps.agreement h)) x));
     }
 
 pub returns-clause-answers : goal.returns-clause-answers
 returns-clause-answers g c h =
     let n = net_of (g.L.Lookahead.atn c.args.l.now) in
-    let w = c.in_ok-follows.ensures h in
+    let w = c.in_ok-follows.ensures in
     record {
       verdict = accepts (ChainFault n c.args.chain.now) _ (w.verdict.accepted refl);
-      set = subst (λ fs. HoldsExactly c.remove_one.new.self (Recovery n fs)) (c.states-f-items.ensures ∙ w.follows)
-          (recovered n c.states-f-items.result.now c.loop-f.set c.remove_one.new.self c.loop-f.f-index (omega arith) (c.loop-f.invariant.joined h) c.remove_one.ensures);
+      set = subst (λ fs. HoldsExactly c.remove_one.new.self (Recovery n fs)) (c.as_slice-f-items.ensures.items ∙ w.follows)
+          (recovered n c.as_slice-f-items.result.now c.loop-f.set c.remove_one.new.self c.loop-f.f-index (omega arith) (c.loop-f.invariant.joined h) c.remove_one.ensures);
     }
 
 pub returns-in_err-follows-clause-answers : goal.returns-in_err-follows-clause-answers
 returns-in_err-follows-clause-answers g c h =
     let n = net_of (g.L.Lookahead.atn c.args.l.now) in
-    let p = err_from_is_err_and c.from_residual.result c.from_residual.ensures.1 in
     let d = c.in_err-follows.field-0.0 in
-    let w = c.in_err-follows.ensures h in
-    rw (p.1, p.2) (record { verdict = denies (ChainFault n c.args.chain.now) d (w.verdict.denied d refl); set = tt })
+    answers_denied (ChainFault n c.args.chain.now) (Recovery n (follow_states n c.args.chain.now)) c.from_residual.result d c.from_residual.ensures.1 (c.in_err-follows.ensures.verdict.denied d refl)

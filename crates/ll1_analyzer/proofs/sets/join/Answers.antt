@@ -1,19 +1,13 @@
-use Rattle.std.proofs.Common.{◌≡◌, ℕ, ◌+◌, ◌<◌, List, ◌∷◌, length, get_or, drop, sym, refl, ◌∙◌, subst, add-one, drop-cons}
+use Rattle.std.proofs.Common.{◌≡◌, ℕ, ◌+◌, ◌<◌, List, ◌∷◌, length, get_or, drop, sym, refl, subst, add-one, drop-cons}
 use Rattle.std.proofs.lemmas.List.{drop_all}
 use Rattle.interval_set.specs.Intervals.{from_to}
 use Rattle.atn.specs.Checked.{net_of}
 use Rattle.atn.proofs.Labelling.{added}
 use Rattle.ll1_analyzer.specs.Sets.{eof, Within}
 use Rattle.ll1_analyzer.specs.Answers.{HoldsExactly}
-use Rattle.ll1_analyzer.proofs.Joining.{SoFar, first_joined, next_joined, stopped, ended}
+use Rattle.ll1_analyzer.proofs.Keeping.{keeps_both}
+use Rattle.ll1_analyzer.proofs.Joining.{SoFar, next_joined, stopped, ended}
 use Rattle.ll1_analyzer.proofs.sets.join.Goals as goal
-
-pub loop-f-init : goal.loop-f-init
-loop-f-init g c = record {
-  net = c.within-set.ensures.keeps_net;
-  agreement = c.within-set.ensures.keeps_agreement;
-  joined = λ h. first_joined (net_of (g.L.Lookahead.atn c.args.l.now)) c.args.s c.within-set.result c.args.follows.now (c.within-set.ensures.answers h);
-}
 
 more_left : (xs : List ℕ) (i : ℕ) → i < length xs → drop i xs ≡ get_or xs i 0 ∷ drop (i + 1) xs
 more_left xs i l = rw (add-one, drop-cons xs i 0) refl
@@ -24,12 +18,11 @@ loop-f-preserved g c =
     let fs = c.args.follows.now in
     let i = c.loop-f.f-index in
     record {
-      net = c.within.ensures.keeps_net ∙ c.loop-f.invariant.net;
-      agreement = λ h. c.within.ensures.keeps_agreement (c.loop-f.invariant.agreement h);
+      keeps = keeps_both c.loop-f.invariant.keeps c.within.ensures.keeps;
       joined = λ h. next_joined n (c.args.s ∷ fs) c.loop-f.set c.remove_one.new.self c.within.result c.add_set.new.self (get_or fs i 0) (drop (i + 1) fs)
           (subst (SoFar n (c.args.s ∷ fs) c.loop-f.set) (more_left fs i c.loop-f-test.true) (c.loop-f.invariant.joined h))
           (sym c.if-not-contains.ensures) c.remove_one.ensures
-          (subst (λ a. HoldsExactly c.within.result (Within (net_of a) (get_or fs i 0))) c.loop-f.invariant.net (c.within.ensures.answers (c.loop-f.invariant.agreement h)))
+          (subst (λ a. HoldsExactly c.within.result (Within (net_of a) (get_or fs i 0))) c.loop-f.invariant.keeps.net (c.within.ensures.answers (c.loop-f.invariant.keeps.agreement h)))
           c.add_set.ensures;
     }
 

@@ -1,21 +1,22 @@
-use Rattle.std.proofs.Common.{pos, sym, ap, ◌∙◌}
-use Rattle.token.specs.Tokens.{is_eof}
-use Rattle.token.specs.Streams.{shown_at}
-use Rattle.token.proofs.Looking.{found_count, found_eof, ahead_inside, signed}
+use Rattle.std.proofs.Common.{arith, rules, ◌∙◌}
+use Rattle.std.proofs.lemmas.Grind.{common_steps}
+use Rattle.token.proofs.Looking.{found_count, found_eof, eof_at}
 use Rattle.token.proofs.filter_stream.look_on.Goals as goal
+use Rattle.token.proofs.filter_stream.look_on.Goals.{in-Some, in-None}
 
-pub returns-then-count-k-clause-found : goal.returns-then-count-k-clause-found
-returns-then-count-k-clause-found g c =
-    found_count (g.S.IntStream.shown c.args.below.now) c.loop-ahead.count c.loop-ahead.ahead c.args.k c.loop-ahead.invariant.looked c.if-ahead-gt0.true c.if-count-k.true
+pub loop-sight-init : goal.loop-sight-init
+loop-sight-init g c = elim c.match-seen.branch [
+  | in-Some w ↦ let looked = c.requires.looked _ w.in-Some.is in let more = c.requires.more _ w.in-Some.is in search rules
+  | in-None w ↦ grind (arith, common_steps)
+]
 
-pub returns-then-is_eof-clause-found : goal.returns-then-is_eof-clause-found
-returns-then-is_eof-clause-found g c =
+pub returns-after-loop-sight-clause-found : goal.returns-after-loop-sight-clause-found
+returns-after-loop-sight-clause-found g c =
+    found_count (g.S.IntStream.shown c.args.below.now) c.loop-sight.sight.count c.loop-sight.sight.ahead c.args.k c.loop-sight.invariant.looked (omega arith)
+
+pub returns-else-not-is_eof_at-clause-found : goal.returns-else-not-is_eof_at-clause-found
+returns-else-not-is_eof_at-clause-found g c =
     let ts = g.S.IntStream.shown c.args.below.now in
-    let ahead = c.loop-ahead.ahead in
-    let ends = (g.S.IntStream.lawful c.args.below.now).ends in
-    let at = ahead_inside ts ahead c.if-ahead-gt0-2.true c.loop-ahead.invariant.looked.within in
-    let law = g.S.IntStream.lawful c.args.below.now in
-    let number = signed ts ahead law.few c.loop-ahead.invariant.looked.within in
-    let typ = c.la.ensures.type_ahead ∙ ap (λ z. (shown_at (g.S.IntStream.shown c.loop-ahead.below) z).typ) number ∙ ap (λ xs. (shown_at xs (pos ahead)).typ) c.loop-ahead.invariant.shown ∙ ap (λ t. t.typ) at in
-    found_eof ts c.loop-ahead.count ahead c.args.k ends c.loop-ahead.invariant.looked c.if-ahead-gt0-2.true c.loop-ahead.invariant.few
-    (sym (c.if-is_eof.ensures ∙ ap is_eof typ))
+    let so = c.loop-sight.invariant in
+    let eof = eof_at (g.S.IntStream.shown c.loop-sight.below) ts c.loop-sight.sight.ahead _ c.is_eof_at.ensures.eof so.keeps.same_shown so.looked.some so.looked.within in
+    found_eof ts c.loop-sight.sight.count c.loop-sight.sight.ahead c.args.k (g.S.IntStream.lawful c.args.below.now).ends so.looked so.not_past (eof ∙ c.if-not-is_eof_at.false)

@@ -1,14 +1,14 @@
-use Rattle.std.proofs.Common.{◌≡◌, ◌-◌, ◌≤◌, length}
+use Rattle.std.proofs.Common.{◌-◌, ◌≤◌, length}
+use Rattle.token.specs.Streams.{Keeps}
 use Rattle.token.specs.Looked.{Looked}
 use Rattle.token.proofs.filter_stream.look_on.Given as goal
 
-abbrev pub invariant-loop-ahead : goal.invariant-loop-ahead
-invariant-loop-ahead g l = record {
-  tape : g.S.IntStream.tape l.below ≡ g.S.IntStream.tape l.fn.below;
-  shown : g.S.IntStream.shown l.below ≡ g.S.IntStream.shown l.fn.below;
-  looked : Looked (g.S.IntStream.shown l.fn.below) l.count l.ahead;
-  few : l.count ≤ l.k;
+abbrev pub invariant-loop-sight : goal.invariant-loop-sight
+invariant-loop-sight g l = record {
+  keeps : Keeps g.S.IntStream.tape g.S.IntStream.shown l.fn.below l.below;
+  looked : Looked (g.S.IntStream.shown l.fn.below) l.sight.count l.sight.ahead;
+  not_past : l.sight.count ≤ l.k;
 }
 
-abbrev pub decreases-loop-ahead : goal.decreases-loop-ahead
-decreases-loop-ahead g l = length (g.S.IntStream.shown l.below) - l.ahead
+abbrev pub decreases-loop-sight : goal.decreases-loop-sight
+decreases-loop-sight g l = length (g.S.IntStream.shown l.below) - l.sight.ahead

@@ -1,10 +1,12 @@
-use Rattle.std.proofs.Common.{arith}
-use Rattle.std.proofs.lemmas.Int.{ints}
-use Rattle.interval_set.proofs.Rising.{place_fits, least}
+use Rattle.std.proofs.Common.{rules, ◌≡◌, sym, subst}
+use Rattle.std.specs.Option.{option_map}
+use Rattle.std.specs.List.{slice_get}
+use Rattle.interval_set.specs.Members.{Smallest}
+use Rattle.interval_set.proofs.Canonical.{smallest_of}
 use Rattle.interval_set.proofs.set.IntervalSet.get_min.Goals as goal
 
-pub returns-else-self-eq0 : goal.returns-else-self-eq0
-returns-else-self-eq0 c =
-    let s = c.args.self.now in
-    let f = place_fits s 0 (omega arith) in
-    least s _ (omega arith) (omega (arith, ints))
+pub returns : goal.returns
+returns c =
+    let is = c.deref.result.now in
+    let e : c.map.result ≡ option_map (λ i. i.a) (slice_get is 0) = search rules in
+    subst (Smallest c.args.self.now) (sym e) (smallest_of c.args.self.now is c.deref.ensures.0)

@@ -1,6 +1,6 @@
-use Rattle.std.proofs.Common.{◌+◌, [], ◌∷◌, ◌++◌, sym, ap, ◌∙◌, subst, arith}
+use Rattle.std.proofs.Common.{◌≡◌, ◌+◌, true, not, ◌&&◌, [], ◌∷◌, ◌++◌, sym, ap, ◌∙◌, subst, arith}
 use Rattle.std.proofs.lemmas.Int.{ints}
-use Rattle.interval_set.specs.Intervals.{has}
+use Rattle.interval_set.specs.Intervals.{inside, has, rising}
 use Rattle.interval_set.specs.Members.{intervals}
 use Rattle.interval_set.proofs.Rising.{place, place_fits}
 use Rattle.interval_set.proofs.Without.{Removing, Halfway, without_has, half_rises, written_rises, is_under, is_over, write_under, pass_under, write_over, pass_over, all_removed}
@@ -9,46 +9,49 @@ use Rattle.interval_set.proofs.set.IntervalSet.remove_interval.Goals.{then-i-rem
 
 pub append-requires : goal.append-requires
 append-requires c =
-    let s = c.args.self.now in
+    let s = c.intervals-i-items.result.now in
+    let rises : rising s ≡ true = ap rising c.intervals-i-items.ensures ∙ c.args.self.now.rising in
     let r = c.args.removed in
-    let k = c.loop-k.k in
-    let out = intervals c.loop-k.out in
+    let k = c.loop-i.i-index in
+    let out = intervals c.loop-i.out in
     let j = c.below.result in
-    let f = place_fits s k c.loop-k-test.true in
-    half_rises r s k (out ++ j ∷ []) (omega (arith, ints))
-    (write_under r s k out c.loop-k-test.true c.loop-k.invariant j (is_under r (place s k) j c.below.ensures.low c.below.ensures.high) (omega (arith, ints)))
+    let f = place_fits s k c.loop-i-test.true rises in
+    half_rises r s k (out ++ j ∷ []) rises (omega (arith, ints))
+    (write_under r s k out c.loop-i-test.true c.loop-i.invariant j (is_under r (place s k) j c.below.ensures.low c.below.ensures.high) (omega (arith, ints)))
 
 pub append-requires-then-removed-i : goal.append-requires-then-removed-i
 append-requires-then-removed-i c =
-    let s = c.args.self.now in
+    let s = c.intervals-i-items.result.now in
+    let rises : rising s ≡ true = ap rising c.intervals-i-items.ensures ∙ c.args.self.now.rising in
     let r = c.args.removed in
-    let k = c.loop-k.k in
-    let out = intervals c.loop-k.out in
+    let k = c.loop-i.i-index in
+    let out = intervals c.loop-i.out in
     let new = intervals c.if-i-removed.out in
     let i = c.above.result in
-    let l = c.loop-k-test.true in
-    let f = place_fits s k l in
+    let l = c.loop-i-test.true in
+    let f = place_fits s k l rises in
     let half : Halfway r s k new = elim c.if-i-removed.branch [
       | then-i-removed w ↦ let j = w.below.result in let t = w.if-i-removed.true in subst (Halfway r s k) (sym (ap intervals w.out-is ∙ w.append.ensures))
-          (write_under r s k out l c.loop-k.invariant j (is_under r (place s k) j w.below.ensures.low w.below.ensures.high) (omega (arith, ints)))
-      | else-i-removed w ↦ let t = w.if-i-removed.false in subst (Halfway r s k) (sym (ap intervals w.out-is)) (pass_under r s k out l c.loop-k.invariant (omega (arith, ints)))
+          (write_under r s k out l c.loop-i.invariant j (is_under r (place s k) j w.below.ensures.low w.below.ensures.high) (omega (arith, ints)))
+      | else-i-removed w ↦ let t = w.if-i-removed.false in subst (Halfway r s k) (sym (ap intervals w.out-is)) (pass_under r s k out l c.loop-i.invariant (omega (arith, ints)))
     ] in
-    written_rises r s (k + 1) (new ++ i ∷ []) (omega (arith, ints))
+    written_rises r s (k + 1) (new ++ i ∷ []) rises (omega (arith, ints))
     (write_over r s k new half i (is_over r (place s k) i c.above.ensures.low c.above.ensures.high) (omega (arith, ints)))
 
-pub loop-k-preserved : goal.loop-k-preserved
-loop-k-preserved c =
-    let s = c.args.self.now in
+pub loop-i-preserved : goal.loop-i-preserved
+loop-i-preserved c =
+    let s = c.intervals-i-items.result.now in
+    let rises : rising s ≡ true = ap rising c.intervals-i-items.ensures ∙ c.args.self.now.rising in
     let r = c.args.removed in
-    let k = c.loop-k.k in
-    let out = intervals c.loop-k.out in
+    let k = c.loop-i.i-index in
+    let out = intervals c.loop-i.out in
     let new = intervals c.if-i-removed.out in
-    let l = c.loop-k-test.true in
-    let f = place_fits s k l in
+    let l = c.loop-i-test.true in
+    let f = place_fits s k l rises in
     let half : Halfway r s k new = elim c.if-i-removed.branch [
       | then-i-removed w ↦ let j = w.below.result in let t = w.if-i-removed.true in subst (Halfway r s k) (sym (ap intervals w.out-is ∙ w.append.ensures))
-          (write_under r s k out l c.loop-k.invariant j (is_under r (place s k) j w.below.ensures.low w.below.ensures.high) (omega (arith, ints)))
-      | else-i-removed w ↦ let t = w.if-i-removed.false in subst (Halfway r s k) (sym (ap intervals w.out-is)) (pass_under r s k out l c.loop-k.invariant (omega (arith, ints)))
+          (write_under r s k out l c.loop-i.invariant j (is_under r (place s k) j w.below.ensures.low w.below.ensures.high) (omega (arith, ints)))
+      | else-i-removed w ↦ let t = w.if-i-removed.false in subst (Halfway r s k) (sym (ap intervals w.out-is)) (pass_under r s k out l c.loop-i.invariant (omega (arith, ints)))
     ] in
     elim c.if-removed-i.branch [
       | then-removed-i w ↦ let i = w.above.result in let t = w.if-removed-i.true in subst (Removing r s (k + 1)) (sym (ap intervals w.out-is ∙ w.append-then-removed-i.ensures))
@@ -57,4 +60,4 @@ loop-k-preserved c =
     ]
 
 pub returns : goal.returns
-returns c x = ap (λ is. has is x) (all_removed c.args.removed c.args.self.now c.loop-k.k (intervals c.loop-k.out) c.loop-k.invariant (omega arith)) ∙ without_has c.args.removed (intervals c.args.self.now) x
+returns c x = ap (λ is. has is x) (all_removed c.args.removed c.intervals-i-items.result.now c.loop-i.i-index (intervals c.loop-i.out) c.loop-i.invariant c.loop-i-test.false) ∙ without_has c.args.removed c.intervals-i-items.result.now x ∙ ap (λ is. has is x && not (inside c.args.removed x)) c.intervals-i-items.ensures

@@ -1,0 +1,75 @@
+// How the null states are found.
+ghost use Rattle.std.specs.Prelude.{◌≡◌, Decides};
+ghost use Rattle.std.specs.List.{list_any};
+ghost use Rattle.atn_graph.specs.Net.{net, size};
+ghost use Rattle.atn.specs.Marks.{elem};
+ghost use Rattle.atn.specs.Found.{found};
+ghost use Rattle.atn.specs.Passes.{over_listed, Falls, Pass};
+ghost use Rattle.atn.specs.Reach.{KnowsNull};
+
+use crate::nulls::NullStates;
+use crate::visits::Visits;
+use atn_graph::graph::Graph;
+use atn_graph::transition::{Move, Transition};
+
+impl<'g> NullStates<'g> {
+    // Passes until one adds nothing.
+    pub fn of(graph: &'g Graph) -> NullStates<'g>
+        ensures graph { result.graph.now ≡ graph.now }
+        ensures known { KnowsNull (net graph.now.lists) (found result.states) }
+    {
+        let mut nulls = NullStates {
+            graph,
+            states: Visits::new(),
+        };
+        loop {
+            let before = nulls.states.len();
+            nulls.pass();
+            if nulls.states.len() == before {
+                return nulls;
+            }
+        }
+    }
+
+    pub fn has(&self, s: usize) -> bool
+        ensures { result ≡ elem s (found self.now.states) }
+    {
+        self.states.has(s)
+    }
+
+    // Whether the edge leads over null states.
+    fn leads_over(&self, e: &Transition) -> bool
+        ensures { result ≡ over_listed (found self.now.states) e.now }
+    {
+        match e.kind.moves() {
+            Move::Along => self.has(e.target),
+            Move::Call { follow } => self.has(e.target) && self.has(follow),
+            Move::Token => false,
+        }
+    }
+
+    fn any_leads_over(&self, edges: &[Transition]) -> bool
+        ensures { result ≡ list_any (over_listed (found self.now.states)) edges.now }
+    {
+        edges.iter().any(|e| self.leads_over(e))
+    }
+
+    // Whether s is a stop state or has an edge that leads over null states.
+    fn falls(&self, s: usize) -> bool
+        ensures { Decides result (Falls (net self.now.graph.now.lists) (found self.now.states) s) }
+    {
+        self.graph.is_stop(s) || self.any_leads_over(self.graph.edges(s))
+    }
+
+    fn pass(&mut self)
+        ensures graph { self.new.graph.now ≡ self.old.graph.now }
+        ensures pass { Pass (net self.old.graph.now.lists) (size (net self.old.graph.now.lists)) (found self.old.states) (found self.new.states) }
+    {
+        // by their numbers, which are noted
+        for s in 0..self.graph.lists.states.len() {
+            if self.falls(s) {
+                self.states.note(s);
+            }
+        }
+    }
+}
