@@ -3,7 +3,7 @@ use Rattle.std.proofs.Common.{◌≡◌, ℕ, ◌<◌, ◌≤◌, ◌⊎◌, Lis
 use Rattle.std.proofs.lemmas.Bool.{cases_lt}
 use Rattle.script.specs.declared.error.Fault.{Fault}
 use Rattle.script.specs.declared.script_line.ScriptLine.{ScriptLine}
-use Rattle.script.specs.declared.script_line.ScriptLine.TheVariants.{Row, Lookahead, Asked}
+use Rattle.script.specs.declared.script_line.ScriptLine.TheVariants.{Row, Lookahead, Show, Asked}
 use Rattle.script.specs.Asking.{Asking, Taken, LineTaken, first_word}
 use Rattle.script.specs.Contents.{Content}
 use Rattle.script.specs.Lines.{BeginsWith}
@@ -20,7 +20,12 @@ refused (Lookahead l) k a f k' a' t = (t.0, at (cases_lt 0 (length a.questions))
     at : (0 < length a.questions) ⊎ (length a.questions ≤ 0) → a' ≡ a
     at (inl l) = (t.1.late l).1
     at (inr z) = absurd (true≢false (sym (t.1.before (omega arith)).0))
-refused (Asked q) k a f k' a' t = (t.0, λ i. record { lookahead = t.1 i; questions = t.2.0 i })
+refused (Show s) k a f k' a' t = (t.0, at (cases_lt 0 (length a.questions)))
+  where
+    at : (0 < length a.questions) ⊎ (length a.questions ≤ 0) → a' ≡ a
+    at (inl l) = (t.1.late l).1
+    at (inr z) = absurd (true≢false (sym (t.1.before (omega arith)).0))
+refused (Asked q) k a f k' a' t = (t.0, λ i. record { lookahead = t.1 i; show = t.2 i; questions = t.3.0 i })
 
 pub line_taken : (line : List ℕ) (x : ScriptLine) (k : Content) (a : Asking) (r : Result (Unit {0}) Fault) (k' : Content) (a' : Asking) → BeginsWith line (first_word x) → Taken x k a r k' a' → LineTaken line k a r k' a'
 line_taken line x k a (Ok u) k' a' b t = inr (x, b, t)

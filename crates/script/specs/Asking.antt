@@ -3,8 +3,10 @@ use Rattle.std.specs.Prelude.{◌≡◌, ◌<◌, ◌⊎◌, ℕ, List, [], ◌�
 use Rattle.script.specs.declared.script.Script.{Script}
 use Rattle.script.specs.declared.script_line.LookaheadKind.{LookaheadKind}
 use Rattle.script.specs.declared.script_line.LookaheadKind.TheVariants.{Walker}
+use Rattle.script.specs.declared.script_line.Show.{Show}
+use Rattle.script.specs.declared.script_line.Show.TheVariants.{All}
 use Rattle.script.specs.declared.script_line.ScriptLine.{ScriptLine}
-use Rattle.script.specs.declared.script_line.ScriptLine.TheVariants.{Row, Lookahead, Asked}
+use Rattle.script.specs.declared.script_line.ScriptLine.TheVariants.{Row, Lookahead, Show as GivenShow, Asked}
 use Rattle.script.specs.declared.question.AskWord.TheVariants as word
 use Rattle.script.specs.declared.question.Question.{Question}
 use Rattle.script.specs.declared.error.Fault.{Fault}
@@ -14,22 +16,24 @@ use Rattle.script.specs.Lines.{BeginsWith, LineFault, SaysNothing, Spelt, keywor
 use Rattle.script.specs.Questions.{AskSpelt, ask_spelling, ask_word}
 use Rattle.script.specs.Rows.{RowAdded}
 
--- how the questions are worked out, and the questions in their order
+-- how the questions are worked out, which tokens are shown, and the questions in their order
 pub record Asking : Type 0 where
   pub lookahead : LookaheadKind
+  pub show : Show
   pub questions : List Question
 
 abbrev pub asking : Script → Asking
-asking s = record { lookahead = s.lookahead; questions = s.questions }
+asking s = record { lookahead = s.lookahead; show = s.show; questions = s.questions }
 
--- What an empty script asks: nothing, of the walker.
+-- What an empty script asks: nothing, of the walker and of all tokens.
 abbrev pub nothing_asked : Asking
-nothing_asked = record { lookahead = Walker; questions = [] }
+nothing_asked = record { lookahead = Walker; show = All; questions = [] }
 
 -- the word that the line begins with
 abbrev pub first_word : ScriptLine → List ℕ
 first_word (Row d) = spelling (keyword_of d)
 first_word (Lookahead l) = ask_spelling word.Lookahead
+first_word (GivenShow s) = ask_spelling word.Show
 first_word (Asked q) = ask_spelling (ask_word q.ask)
 
 -- the line begins with a word that is no keyword and asks nothing
@@ -51,7 +55,8 @@ pub record Early (a : Asking) (r : Result (Unit {0}) Fault) (Does Nothing : Type
 abbrev pub Taken : ScriptLine → Content → Asking → Result (Unit {0}) Fault → Content → Asking → Type 0
 Taken (Row d) k a r k' a' = (a' ≡ a) × Early a r (Applied d k r k') (k' ≡ k)
 Taken (Lookahead l) k a r k' a' = (k' ≡ k) × Early a r ((is_ok r ≡ true) × (a' ≡ record a { lookahead = l })) (a' ≡ a)
-Taken (Asked q) k a r k' a' = (k' ≡ k) × (a'.lookahead ≡ a.lookahead) × RowAdded a.questions q r a'.questions
+Taken (GivenShow s) k a r k' a' = (k' ≡ k) × Early a r ((is_ok r ≡ true) × (a' ≡ record a { show = s })) (a' ≡ a)
+Taken (Asked q) k a r k' a' = (k' ≡ k) × (a'.lookahead ≡ a.lookahead) × (a'.show ≡ a.show) × RowAdded a.questions q r a'.questions
 
 -- A line of text, read and taken in. One that says nothing changes nothing, and neither does a refused one; any other is
 -- taken in as what its first word says.

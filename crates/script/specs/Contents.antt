@@ -1,5 +1,5 @@
 -- What a script says, as plain lists, and what a directive does to it.
-use Rattle.std.specs.Prelude.{◌≡◌, ℕ, Bool, true, false, List, [], length, ℤ, pos, Some, None, Ok, Err, Option, Result}
+use Rattle.std.specs.Prelude.{◌≡◌, ◌<◌, ◌⊎◌, ℕ, Bool, true, false, List, [], length, ℤ, pos, Some, None, Ok, Err, Option, Result}
 use Rattle.std.specs.Option.{unwrap_or}
 use Rattle.interval_set.specs.declared.interval.Interval.{Interval}
 use Rattle.atn_graph.specs.declared.tables.Tables.{Tables}
@@ -9,8 +9,11 @@ use Rattle.atn_graph.specs.declared.tables.StateRow.{StateRow}
 use Rattle.atn_graph.specs.declared.tables.EdgeRow.{EdgeRow}
 use Rattle.script.specs.declared.script.Script.{Script}
 use Rattle.script.specs.declared.directive.Directive.{Directive}
-use Rattle.script.specs.declared.directive.Directive.TheVariants.{Net, Counts as GivenCounts, Rule, State, Edge, Interval as GivenInterval, Summary}
+use Rattle.script.specs.declared.directive.Directive.TheVariants.{Net, Counts as GivenCounts, Rule, State, Edge, Interval as GivenInterval, Word, Lane, Summary}
+use Rattle.token.specs.declared.token_type.Span.{Span}
+use Rattle.script.specs.declared.token_row.TokenRow.{TokenRow}
 use Rattle.script.specs.declared.error.Fault.{Fault}
+use Rattle.script.specs.declared.error.Fault.TheVariants.{OtherKind}
 use Rattle.script.specs.Rows.{pushed, RefusedAt}
 
 -- What the lines say: an option is None until its line stands.
@@ -21,10 +24,12 @@ pub record Content : Type 0 where
   pub states : List StateRow
   pub edges : List EdgeRow
   pub intervals : List Interval
+  pub words : List (TokenRow Span)
+  pub lanes : List (TokenRow (Unit {0}))
   pub summary : Bool
 
 abbrev pub content : Script → Content
-content s = record { max = s.max; counts = s.counts; rules = s.rules; states = s.states; edges = s.edges; intervals = s.intervals; summary = s.summary }
+content s = record { max = s.max; counts = s.counts; rules = s.rules; states = s.states; edges = s.edges; intervals = s.intervals; words = s.words; lanes = s.lanes; summary = s.summary }
 
 -- what the script says once the directive is taken in: a row goes to its own table, an option replaces an earlier one
 abbrev pub taken_in : Directive → Content → Content
@@ -34,6 +39,8 @@ taken_in (Rule r) k = record k { rules = pushed k.rules r }
 taken_in (State r) k = record k { states = pushed k.states r }
 taken_in (Edge r) k = record k { edges = pushed k.edges r }
 taken_in (GivenInterval i) k = record k { intervals = pushed k.intervals i }
+taken_in (Word w) k = record k { words = pushed k.words w }
+taken_in (Lane l) k = record k { lanes = pushed k.lanes l }
 taken_in Summary k = record k { summary = true }
 
 -- how many rows the table has that the directive is for; an option is for none
@@ -44,16 +51,24 @@ rows_for (Rule r) k = Some (length k.rules)
 rows_for (State r) k = Some (length k.states)
 rows_for (Edge r) k = Some (length k.edges)
 rows_for (GivenInterval i) k = Some (length k.intervals)
+rows_for (Word w) k = Some (length k.words)
+rows_for (Lane l) k = Some (length k.lanes)
 rows_for Summary k = None
 
--- The directive is taken in; or it is refused by its table, and then nothing changes.
+-- how many tokens of the other kind the script has
+abbrev pub other_tokens : Directive → Content → ℕ
+other_tokens (Word w) k = length k.lanes
+other_tokens (Lane l) k = length k.words
+other_tokens d k = 0
+
+-- The directive is taken in; or it is refused, as a token of the other kind or by its table, and then nothing changes.
 abbrev pub Applied : Directive → Content → Result (Unit {0}) Fault → Content → Type 0
-Applied d before (Ok u) after = after ≡ taken_in d before
-Applied d before (Err f) after = (after ≡ before) × RefusedAt (rows_for d before) f
+Applied d before (Ok u) after = (other_tokens d before ≡ 0) × (after ≡ taken_in d before)
+Applied d before (Err f) after = (after ≡ before) × (((f ≡ OtherKind) × (0 < other_tokens d before)) ⊎ RefusedAt (rows_for d before) f)
 
 -- What an empty script says.
 abbrev pub nothing_said : Content
-nothing_said = record { max = None; counts = None; rules = []; states = []; edges = []; intervals = []; summary = false }
+nothing_said = record { max = None; counts = None; rules = []; states = []; edges = []; intervals = []; words = []; lanes = []; summary = false }
 
 -- the numbers of rows given
 abbrev pub row_counts : Content → Counts

@@ -5,4 +5,5 @@ pub mod Lines
 pub mod Numbers
 pub mod Questions
 pub mod Rows
+pub mod TokenRows
 pub mod Words

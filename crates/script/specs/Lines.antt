@@ -2,9 +2,10 @@
 use Rattle.std.specs.Prelude.{◌≡◌, ◌⊎◌, ℕ, ◌+◌, ◌<◌, true, false, cond, List, [], ◌∷◌, ◌++◌, length, All, ℤ, pos, Some, None, codes, fold, Option, ◌==◌, slice_index, slice_index_or}
 use Rattle.std.specs.Char.{is_ascii_whitespace}
 use Rattle.script.specs.declared.directive.Directive.{Directive}
-use Rattle.script.specs.declared.directive.Directive.TheVariants.{Net, Counts, Rule, State, Edge, Interval, Summary}
+use Rattle.script.specs.declared.directive.Directive.TheVariants.{Net, Counts, Rule, State, Edge, Interval, Word, Lane, Summary}
+use Rattle.script.specs.declared.token_row.TokenRow.{TokenRow}
 use Rattle.script.specs.declared.error.Fault.{Fault}
-use Rattle.script.specs.declared.error.Fault.TheVariants.{UnknownWord, WrongForm, FullTable, NoNet, Memory, WrongQuestion, TooLate}
+use Rattle.script.specs.declared.error.Fault.TheVariants.{UnknownWord, WrongForm, FullTable, OtherKind, NoNet, Memory, WrongQuestion, TooLate}
 use Rattle.script.specs.declared.keyword.Keyword.{Keyword}
 use Rattle.script.specs.declared.keyword.Keyword.TheVariants as keyword
 use Rattle.script.specs.Words.{IsSpelt}
@@ -47,6 +48,8 @@ spelling keyword.Rule = codes "rule"
 spelling keyword.State = codes "state"
 spelling keyword.Edge = codes "edge"
 spelling keyword.Interval = codes "interval"
+spelling keyword.Word = codes "word"
+spelling keyword.Lane = codes "lane"
 spelling keyword.Summary = codes "summary"
 
 -- how many numbers follow the word
@@ -57,6 +60,8 @@ numbers_after keyword.Rule = 2
 numbers_after keyword.State = 3
 numbers_after keyword.Edge = 4
 numbers_after keyword.Interval = 2
+numbers_after keyword.Word = 6
+numbers_after keyword.Lane = 4
 numbers_after keyword.Summary = 0
 
 -- the word is the keyword's, or no keyword's
@@ -71,6 +76,8 @@ keyword_of (Rule r) = keyword.Rule
 keyword_of (State s) = keyword.State
 keyword_of (Edge e) = keyword.Edge
 keyword_of (Interval i) = keyword.Interval
+keyword_of (Word w) = keyword.Word
+keyword_of (Lane l) = keyword.Lane
 keyword_of Summary = keyword.Summary
 
 -- the line begins with a word that is no keyword
@@ -81,6 +88,10 @@ HasNoKeyword line = (w : List ℕ) × BeginsWith line w × Spelt w None
 abbrev pub number : List ℤ → ℕ → ℤ
 number ns i = slice_index_or ns i (pos 0)
 
+-- the numbers that rows of both kinds of token begin with
+abbrev pub HoldsToken : {S : Type 0} → List ℤ → TokenRow S → Type 0
+HoldsToken ns t = (t.token_type ≡ number ns 0) × (t.channel ≡ number ns 1) × (t.line ≡ number ns 2) × (t.column ≡ number ns 3)
+
 -- what the directive holds is the line's numbers, in their order
 abbrev pub Holds : List ℤ → Directive → Type 0
 Holds ns (Net n) = n ≡ number ns 0
@@ -89,6 +100,8 @@ Holds ns (Rule r) = (r.start ≡ number ns 0) × (r.stop ≡ number ns 1)
 Holds ns (State s) = (s.rule ≡ number ns 0) × (s.kind ≡ number ns 1) × (s.edges ≡ number ns 2)
 Holds ns (Edge e) = (e.kind ≡ number ns 0) × (e.target ≡ number ns 1) × (e.a ≡ number ns 2) × (e.b ≡ number ns 3)
 Holds ns (Interval i) = (i.a ≡ number ns 0) × (i.b ≡ number ns 1)
+Holds ns (Word w) = HoldsToken ns w × (w.span.start ≡ number ns 4) × (w.span.stop ≡ number ns 5)
+Holds ns (Lane l) = HoldsToken ns l
 Holds ns Summary = Unit {0}
 
 -- The keyword's directive with these numbers; none where their number is wrong.
@@ -101,6 +114,7 @@ abbrev pub WordFault : List ℕ → Fault → Type 0
 WordFault w UnknownWord = Spelt w None
 WordFault w (WrongForm k) = w ≡ spelling k
 WordFault w FullTable = ⊥
+WordFault w OtherKind = ⊥
 WordFault w NoNet = ⊥
 WordFault w Memory = Unit {0}
 WordFault w (WrongQuestion k) = ⊥
@@ -111,6 +125,7 @@ abbrev pub LineFault : List ℕ → Fault → Type 0
 LineFault line UnknownWord = HasNoKeyword line
 LineFault line (WrongForm k) = BeginsWith line (spelling k)
 LineFault line FullTable = ⊥
+LineFault line OtherKind = ⊥
 LineFault line NoNet = ⊥
 LineFault line Memory = Unit {0}
 LineFault line (WrongQuestion w) = ⊥

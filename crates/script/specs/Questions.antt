@@ -3,18 +3,22 @@ use Rattle.std.specs.Prelude.{◌≡◌, ◌≢◌, ℕ, ◌-◌, ◌^◌, ◌<�
 use Rattle.script.specs.declared.question.AskWord.{AskWord}
 use Rattle.script.specs.declared.question.AskWord.TheVariants as word
 use Rattle.script.specs.declared.question.Ask.{Ask}
-use Rattle.script.specs.declared.question.Ask.TheVariants.{Within, InContext, Expected, Recovery}
+use Rattle.script.specs.declared.question.Ask.TheVariants.{Within, InContext, Expected, Recovery, Tokens}
 use Rattle.script.specs.declared.script_line.LookaheadKind.{LookaheadKind}
 use Rattle.script.specs.declared.script_line.LookaheadKind.TheVariants.{Walker, Table, Cache}
+use Rattle.script.specs.declared.script_line.Show.{Show}
+use Rattle.script.specs.declared.script_line.Show.TheVariants.{All, Channel0}
 use Rattle.script.specs.Words.{IsSpelt}
 
 -- the word as it is written
 abbrev pub ask_spelling : AskWord → List ℕ
 ask_spelling word.Lookahead = codes "lookahead"
+ask_spelling word.Show = codes "show"
 ask_spelling word.Within = codes "within"
 ask_spelling word.InContext = codes "in-context"
 ask_spelling word.Expected = codes "expected"
 ask_spelling word.Recovery = codes "recovery"
+ask_spelling word.Tokens = codes "tokens"
 
 -- the word is the one so spelt, or none of them
 abbrev pub AskSpelt : List ℕ → Option AskWord → Type 0
@@ -25,6 +29,11 @@ abbrev pub lookahead_spelling : LookaheadKind → List ℕ
 lookahead_spelling Walker = codes "walker"
 lookahead_spelling Table = codes "table"
 lookahead_spelling Cache = codes "cache"
+
+-- the choice of the tokens shown, as it is written
+abbrev pub show_spelling : Show → List ℕ
+show_spelling All = codes "all"
+show_spelling Channel0 = codes "channel0"
 
 -- the state that a number names; one below 0 names none
 abbrev pub state_number : ℤ → ℕ
@@ -40,14 +49,21 @@ ask_word (Within s) = word.Within
 ask_word (InContext s chain) = word.InContext
 ask_word (Expected s chain) = word.Expected
 ask_word (Recovery chain) = word.Recovery
+ask_word Tokens = word.Tokens
 
 abbrev pub ask_states : Ask → List ℕ
 ask_states (Within s) = s ∷ []
 ask_states (InContext s chain) = s ∷ chain.items
 ask_states (Expected s chain) = s ∷ chain.items
 ask_states (Recovery chain) = chain.items
+ask_states Tokens = []
 
--- The word's question with these numbers, one or more; none where no question is so written.
+-- a question about a set has one number or more, one for the tokens none
+abbrev pub NumbersFit : AskWord → List ℤ → Type 0
+NumbersFit word.Tokens ns = ns ≡ []
+NumbersFit k ns = 0 < length ns
+
+-- The word's question with these numbers; none where no question is so written.
 abbrev pub Forms : AskWord → List ℤ → Option Ask → Type 0
-Forms k ns (Some a) = (0 < length ns) × (ask_word a ≡ k) × (ask_states a ≡ state_numbers ns)
-Forms k ns None = 0 < length ns → (a : Ask) → ask_word a ≡ k → ask_states a ≢ state_numbers ns
+Forms k ns (Some a) = NumbersFit k ns × (ask_word a ≡ k) × (ask_states a ≡ state_numbers ns)
+Forms k ns None = NumbersFit k ns → (a : Ask) → ask_word a ≡ k → ask_states a ≢ state_numbers ns

@@ -21,6 +21,10 @@ impl Script {
             Directive::State(row) => self.states.push(row)?,
             Directive::Edge(row) => self.edges.push(row)?,
             Directive::Interval(row) => self.intervals.push(row)?,
+            Directive::Word(_) if !self.lanes.is_empty() => return Err(Fault::OtherKind),
+            Directive::Word(row) => self.words.push(row)?,
+            Directive::Lane(_) if !self.words.is_empty() => return Err(Fault::OtherKind),
+            Directive::Lane(row) => self.lanes.push(row)?,
             Directive::Summary => self.summary = true,
         }
         Ok(())
@@ -38,6 +42,10 @@ impl Script {
             ScriptLine::Row(directive) => self.apply(directive),
             ScriptLine::Lookahead(kind) => {
                 self.lookahead = kind;
+                Ok(())
+            }
+            ScriptLine::Show(show) => {
+                self.show = show;
                 Ok(())
             }
         }

@@ -1,3 +1,4 @@
+use crate::token_row::{LaneRow, WordRow};
 use atn_graph::tables::{Counts, EdgeRow, RuleRow, StateRow};
 use interval_set::interval::Interval;
 
@@ -12,6 +13,9 @@ pub enum Directive {
     State(StateRow),
     Edge(EdgeRow),
     Interval(Interval),
+    // a token of the tape
+    Word(WordRow),
+    Lane(LaneRow),
     // a summary of an accepted net is wanted
     Summary,
 }

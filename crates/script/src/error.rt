@@ -16,11 +16,13 @@ pub enum Fault {
     WrongForm(Keyword),
     // the row's table is full
     FullTable,
+    // a token of the other kind than those before it
+    OtherKind,
     // the script ends without a net line
     NoNet,
     // the line is fine, and memory ran out
     Memory,
-    // what follows the word is not what a question takes, or no lookahead's name
+    // what follows the word is not what a question takes, or no name that it takes
     WrongQuestion(AskWord),
     // no question, after the first question
     TooLate,
@@ -55,11 +57,12 @@ impl fmt::Display for Fault {
             Fault::UnknownWord => {
                 write!(
                     f,
-                    "expected net, counts, rule, state, edge, interval or summary"
+                    "expected net, counts, rule, state, edge, interval, word, lane or summary"
                 )
             }
             Fault::WrongForm(keyword) => write!(f, "expected {keyword}"),
             Fault::FullTable => write!(f, "expected at most 1000000 rows in a table"),
+            Fault::OtherKind => write!(f, "expected a token of the kind of those before it"),
             Fault::NoNet => write!(f, "expected a line net MAX, and the script has none"),
             Fault::Memory => write!(f, "out of memory"),
             Fault::WrongQuestion(word) => write!(f, "expected {word}"),

@@ -15,6 +15,8 @@ pub enum Keyword {
     State,
     Edge,
     Interval,
+    Word,
+    Lane,
     Summary,
 }
 
@@ -31,6 +33,8 @@ impl FromStr for Keyword {
             "state" => Ok(Keyword::State),
             "edge" => Ok(Keyword::Edge),
             "interval" => Ok(Keyword::Interval),
+            "word" => Ok(Keyword::Word),
+            "lane" => Ok(Keyword::Lane),
             "summary" => Ok(Keyword::Summary),
             _ => Err(Fault::UnknownWord),
         }
@@ -47,6 +51,8 @@ impl fmt::Display for Keyword {
             Keyword::State => "state RULE KIND EDGES, three numbers",
             Keyword::Edge => "edge KIND TARGET A B, four numbers",
             Keyword::Interval => "interval LOW HIGH, two numbers",
+            Keyword::Word => "word TYPE CHANNEL LINE COLUMN START STOP, six numbers",
+            Keyword::Lane => "lane TYPE CHANNEL LINE COLUMN, four numbers",
             Keyword::Summary => "summary, no number",
         })
     }

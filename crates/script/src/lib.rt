@@ -1,5 +1,5 @@
-// Scripts: the text form of a net and of what is asked about it, read into tables and questions, and
-// what is answered about the net.
+// Scripts: the text form of a net, of a tape and of what is asked about them, read into tables and
+// questions, and what is answered about the net.
 #![tactic(auto)]
 
 pub mod answer;
@@ -15,3 +15,4 @@ mod rows;
 pub mod script;
 pub mod script_line;
 pub mod tables;
+pub mod token_row;

@@ -6,10 +6,12 @@ use crate::directive::Directive;
 use crate::error::Fault;
 use crate::keyword::Keyword;
 use crate::number::read_number;
+use crate::token_row::TokenRow;
 use atn_graph::tables::{Counts, EdgeRow, RuleRow, StateRow};
 use interval_set::interval::Interval;
 use std::alloc::Global;
 use std::str::SplitAsciiWhitespace;
+use token::token_type::Span;
 
 impl Directive {
     // The keyword's directive with these numbers.
@@ -34,6 +36,24 @@ impl Directive {
                 Some(Directive::Edge(EdgeRow { kind, target, a, b }))
             }
             (Keyword::Interval, &[a, b]) => Some(Directive::Interval(Interval { a, b })),
+            (Keyword::Word, &[token_type, channel, line, column, start, stop]) => {
+                Some(Directive::Word(TokenRow {
+                    token_type,
+                    channel,
+                    line,
+                    column,
+                    span: Span { start, stop },
+                }))
+            }
+            (Keyword::Lane, &[token_type, channel, line, column]) => {
+                Some(Directive::Lane(TokenRow {
+                    token_type,
+                    channel,
+                    line,
+                    column,
+                    span: (),
+                }))
+            }
             (Keyword::Summary, &[]) => Some(Directive::Summary),
             _ => None,
         }

@@ -8,14 +8,17 @@ use std::alloc::{AllocError, Global};
 use std::fmt;
 use std::str::FromStr;
 
-// The words that a question's line may begin with, and the one that says how questions are worked out.
+// The words that a question's line may begin with, and those that say how questions are worked out and
+// which tokens are shown.
 #[derive(Clone, Copy, PartialEq, Eq, Debug)]
 pub enum AskWord {
     Lookahead,
+    Show,
     Within,
     InContext,
     Expected,
     Recovery,
+    Tokens,
 }
 
 impl FromStr for AskWord {
@@ -26,10 +29,12 @@ impl FromStr for AskWord {
     fn from_str(word: &str) -> Result<AskWord, Fault> {
         match word {
             "lookahead" => Ok(AskWord::Lookahead),
+            "show" => Ok(AskWord::Show),
             "within" => Ok(AskWord::Within),
             "in-context" => Ok(AskWord::InContext),
             "expected" => Ok(AskWord::Expected),
             "recovery" => Ok(AskWord::Recovery),
+            "tokens" => Ok(AskWord::Tokens),
             _ => Err(Fault::UnknownWord),
         }
     }
@@ -40,22 +45,25 @@ impl fmt::Display for AskWord {
     fn fmt<W: fmt::Write>(&self, f: &mut fmt::Formatter<W>) -> fmt::Result {
         f.write_str(match self {
             AskWord::Lookahead => "lookahead walker, table or cache",
+            AskWord::Show => "show all or channel0",
             AskWord::Within => "within S, one number",
             AskWord::InContext => "in-context S C.., one number or more",
             AskWord::Expected => "expected S C.., one number or more",
             AskWord::Recovery => "recovery C.., one number or more",
+            AskWord::Tokens => "tokens, no number",
         })
     }
 }
 
-// What is asked of a net: the state that a set is of, and the invoking states of the open rules,
-// innermost first.
+// What is asked: a set of the net, by the state that it is of and the invoking states of the open rules,
+// innermost first; or which tokens are shown.
 #[derive(Drop)]
 pub enum Ask {
     Within { state: usize },
     InContext { state: usize, chain: Vec<usize> },
     Expected { state: usize, chain: Vec<usize> },
     Recovery { chain: Vec<usize> },
+    Tokens,
 }
 
 // A question as it stands in the script, its words with single blanks, and what it asks.
@@ -81,13 +89,13 @@ fn state_numbers(heap: Global, numbers: &[i32]) -> Result<Vec<usize>, AllocError
 
 impl Ask {
     // What the word asks with these numbers. A chain may be empty, but a question for the recovery set
-    // has one.
+    // has one; a question for the tokens has no number.
     pub fn form(heap: Global, word: AskWord, numbers: &[i32]) -> Result<Option<Ask>, AllocError>
         ensures { IfOk result (Forms word numbers.now) }
     {
         let states = state_numbers(heap, numbers)?;
         let [state, rest @ ..] = states.as_slice() else {
-            return Ok(None);
+            return Ok((word == AskWord::Tokens).then_some(Ask::Tokens));
         };
         let state = *state;
         let ask = match word {

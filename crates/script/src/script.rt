@@ -1,6 +1,7 @@
 use crate::question::Question;
 use crate::rows::Rows;
-use crate::script_line::LookaheadKind;
+use crate::script_line::{LookaheadKind, Show};
+use crate::token_row::{LaneRow, WordRow};
 use atn_graph::tables::{Counts, EdgeRow, RuleRow, StateRow};
 use interval_set::interval::Interval;
 
@@ -8,7 +9,7 @@ use interval_set::interval::Interval;
 pub const MAX_ROWS: usize = 1_000_000;
 
 // What the lines read so far say. An option is None until its line stands; the walker is the lookahead
-// until another is named.
+// until another is named, and all tokens are shown until another choice stands.
 #[derive(Drop)]
 pub struct Script {
     pub(crate) max: Option<i32>,
@@ -17,7 +18,10 @@ pub struct Script {
     pub(crate) states: Rows<StateRow>,
     pub(crate) edges: Rows<EdgeRow>,
     pub(crate) intervals: Rows<Interval>,
+    pub(crate) words: Rows<WordRow>,
+    pub(crate) lanes: Rows<LaneRow>,
     pub(crate) summary: bool,
     pub(crate) lookahead: LookaheadKind,
+    pub(crate) show: Show,
     pub(crate) questions: Rows<Question>,
 }

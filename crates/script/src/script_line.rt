@@ -1,10 +1,10 @@
 ghost use Rattle.std.specs.Prelude.{◌≡◌, ◌⊎◌, None, Ok, IfNone, IfSome, IfOk, IfErr};
 ghost use Rattle.script.specs.Asking.{ScriptLineFault, first_word};
 ghost use Rattle.script.specs.Lines.{BeginsWith, SaysNothing};
-ghost use Rattle.script.specs.Questions.{ask_word, lookahead_spelling};
+ghost use Rattle.script.specs.Questions.{ask_word, lookahead_spelling, show_spelling};
 ghost use Rattle.script.specs.Words.{IsRead};
 ghost use Rattle.script.specs.declared.error.Fault.TheVariants.{WrongQuestion, Memory};
-ghost use Rattle.script.specs.declared.question.AskWord.TheVariants.{Lookahead};
+ghost use Rattle.script.specs.declared.question.AskWord.TheVariants as word;
 
 use crate::directive::Directive;
 use crate::error::Fault;
@@ -24,7 +24,7 @@ pub enum LookaheadKind {
 impl FromStr for LookaheadKind {
     type Err = Fault;
 
-    ghost from_str_gives = { IsRead lookahead_spelling (WrongQuestion Lookahead) };
+    ghost from_str_gives = { IsRead lookahead_spelling (WrongQuestion word.Lookahead) };
 
     fn from_str(name: &str) -> Result<LookaheadKind, Fault> {
         match name {
@@ -36,13 +36,36 @@ impl FromStr for LookaheadKind {
     }
 }
 
+// Which tokens of a tape are shown.
+#[derive(Clone, Copy, PartialEq, Eq, Debug)]
+pub enum Show {
+    All,
+    Channel0,
+}
+
+impl FromStr for Show {
+    type Err = Fault;
+
+    ghost from_str_gives = { IsRead show_spelling (WrongQuestion word.Show) };
+
+    fn from_str(name: &str) -> Result<Show, Fault> {
+        match name {
+            "all" => Ok(Show::All),
+            "channel0" => Ok(Show::Channel0),
+            _ => Err(Fault::WrongQuestion(AskWord::Show)),
+        }
+    }
+}
+
 // What one line of a script says.
 #[derive(Drop)]
 pub enum ScriptLine {
-    // a row of the net, or an option
+    // a row of the net or of the tape, or an option
     Row(Directive),
     // the lookahead that answers the questions
     Lookahead(LookaheadKind),
+    // the tokens that are shown
+    Show(Show),
     Asked(Question),
 }
 
@@ -58,7 +81,8 @@ impl ScriptLine {
             return Ok(None);
         };
         let said = match first.parse::<AskWord>() {
-            Ok(AskWord::Lookahead) => ScriptLine::Lookahead(read_lookahead(words)?),
+            Ok(AskWord::Lookahead) => ScriptLine::Lookahead(read_name(AskWord::Lookahead, words)?),
+            Ok(AskWord::Show) => ScriptLine::Show(read_name(AskWord::Show, words)?),
             Ok(word) => ScriptLine::Asked(read_question(heap, word, line, words)?),
             Err(_) => ScriptLine::Row(Directive::of_words(heap, first, words)?),
         };
@@ -66,13 +90,16 @@ impl ScriptLine {
     }
 }
 
-// The lookahead that the one word after the first names.
-fn read_lookahead(mut words: SplitAsciiWhitespace<'_>) -> Result<LookaheadKind, Fault>
-    ensures { IfErr result (λ f. f ≡ WrongQuestion Lookahead) }
+// What the one word after the first names.
+fn read_name<T: FromStr<Err = Fault>>(
+    first: AskWord,
+    mut words: SplitAsciiWhitespace<'_>,
+) -> Result<T, Fault>
+    ensures { IfErr result (λ f. f ≡ WrongQuestion first) }
 {
-    let wrong = Fault::WrongQuestion(AskWord::Lookahead);
+    let wrong = Fault::WrongQuestion(first);
     match (words.next(), words.next()) {
-        (Some(name), None) => name.parse(),
+        (Some(name), None) => name.parse().map_err(|_| wrong),
         _ => Err(wrong),
     }
 }

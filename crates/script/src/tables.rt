@@ -5,7 +5,8 @@ ghost use Rattle.script.specs.Contents.{content, nothing_said, row_counts, ItsTa
 use crate::question::Question;
 use crate::rows::Rows;
 use crate::script::Script;
-use crate::script_line::LookaheadKind;
+use crate::script_line::{LookaheadKind, Show};
+use crate::token_row::{LaneRow, WordRow};
 use atn_graph::tables::{Counts, Tables};
 use std::alloc::Global;
 
@@ -22,8 +23,11 @@ impl Script {
             states: Rows::new(heap),
             edges: Rows::new(heap),
             intervals: Rows::new(heap),
+            words: Rows::new(heap),
+            lanes: Rows::new(heap),
             summary: false,
             lookahead: LookaheadKind::Walker,
+            show: Show::All,
             questions: Rows::new(heap),
         }
     }
@@ -39,6 +43,26 @@ impl Script {
         ensures { result ≡ (asking self.now).lookahead }
     {
         self.lookahead
+    }
+
+    pub fn show(&self) -> Show
+        ensures { result ≡ (asking self.now).show }
+    {
+        self.show
+    }
+
+    // The tokens of the tape, if they are words of a text.
+    pub fn words(&self) -> &[WordRow]
+        ensures { result.now ≡ (content self.now).words }
+    {
+        self.words.as_slice()
+    }
+
+    // The tokens of the tape, if they are events of a lane.
+    pub fn lanes(&self) -> &[LaneRow]
+        ensures { result.now ≡ (content self.now).lanes }
+    {
+        self.lanes.as_slice()
     }
 
     pub fn questions(&self) -> &[Question]

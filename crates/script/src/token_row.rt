@@ -1,0 +1,48 @@
+ghost use Rattle.std.specs.Prelude.{◌≡◌, Some, MatchOption, IfSome};
+ghost use Rattle.token.specs.Tokens.{Fields, type_number};
+ghost use Rattle.token.specs.Kinds.{common_fields};
+ghost use Rattle.script.specs.TokenRows.{TypeFits, WritesToken};
+
+use token::kinds::{CommonToken, KeptSpan};
+use token::token_type::{Span, TokenType};
+
+// A token as its row gives it, by numbers that need not be a token's.
+#[derive(Clone, Copy, PartialEq, Eq, Debug)]
+pub struct TokenRow<S> {
+    pub token_type: i32,
+    pub channel: i32,
+    pub line: i32,
+    pub column: i32,
+    pub span: S,
+}
+
+pub type WordRow = TokenRow<Span>;
+
+pub type LaneRow = TokenRow<()>;
+
+// The type with that number.
+fn token_type(n: i32) -> Option<TokenType>
+    ensures { MatchOption result ((t : TokenType) → TypeFits t → type_number t ≡ n → ⊥) (λ t. TypeFits t × (type_number t ≡ n)) }
+{
+    match n {
+        -1 => Some(TokenType::Eof),
+        _ => Some(TokenType::Of(u8::try_from(n).ok()?)),
+    }
+}
+
+impl<S: KeptSpan + Copy> TokenRow<S> {
+    // The token that the row writes, with that own index.
+    pub fn token(&self, index: u16) -> Option<CommonToken<S>>
+        ensures written { MatchOption result ((t : Fields) → WritesToken S.kept self.now t → ⊥) (λ t. WritesToken S.kept self.now (common_fields S.kept t)) }
+        ensures index { IfSome result (λ t. t.index ≡ Some index) }
+    {
+        Some(CommonToken {
+            token_type: token_type(self.token_type)?,
+            channel: u8::try_from(self.channel).ok()?,
+            index: Some(index),
+            line: u32::try_from(self.line).ok()?,
+            column: u32::try_from(self.column).ok()?,
+            span: self.span,
+        })
+    }
+}
