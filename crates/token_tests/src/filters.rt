@@ -2,11 +2,11 @@
 use crate::words::*;
 use std::process::Abort;
 use std::test::*;
-use token::filter::Filter;
 use token::kinds::WordFactory;
-use token::stream::{IntStream, TokenStream};
-use token::table::TokenTable;
 use token::token::Token;
+use token_stream::filter::Filter;
+use token_stream::stream::{IntStream, TokenStream};
+use token_stream::table::TokenTable;
 
 #[test]
 fn hidden_at_the_start(rt: HostRuntime) -> Result<(), Fail> {

@@ -2,10 +2,10 @@
 use crate::words::*;
 use std::test::*;
 use token::kinds::{LaneFactory, WordFactory};
-use token::stream::{IntStream, TokenStream};
-use token::table::TokenTable;
 use token::token::{Token, TokenFactory};
 use token::token_type::TokenType;
+use token_stream::stream::{IntStream, TokenStream};
+use token_stream::table::TokenTable;
 
 #[test]
 fn what_is_ahead(rt: HostRuntime) -> Result<(), Fail> {

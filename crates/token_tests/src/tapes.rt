@@ -3,9 +3,9 @@ use crate::words::*;
 use errors::denial::Denial;
 use std::test::*;
 use token::kinds::{LaneFactory, LaneToken, WordToken};
-use token::table::TokenTable;
 use token::token::Token;
 use token::token_type::TokenType;
+use token_stream::table::TokenTable;
 
 const FAULTY: Result<(), u8> = Err(6);
 

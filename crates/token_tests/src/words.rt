@@ -2,9 +2,9 @@
 use std::process::Abort;
 use std::test::*;
 use token::kinds::WordToken;
-use token::stream::TokenStream;
 use token::token::Token;
 use token::token_type::{Span, TokenType};
+use token_stream::stream::TokenStream;
 
 pub(crate) const NOWHERE: Span = Span {
     start: -1,

@@ -1,0 +1,5 @@
+pub mod Tapes
+pub mod Streams
+pub mod Lawful
+pub mod Looked
+pub mod Filtering

@@ -1,0 +1,158 @@
+// What a filter shows.
+ghost use Rattle.std.specs.Prelude.{◌≡◌, ◌<◌, ◌≤◌, List, length, drop, pos};
+ghost use Rattle.std.specs.Option.{ForSome};
+ghost use Rattle.token.specs.Tokens.{Fields, is_eof};
+ghost use Rattle.token_stream.specs.Streams.{Keeps, filtered, shown_at, visible};
+ghost use Rattle.token_stream.specs.Filtering.{filter_shows};
+ghost use Rattle.token_stream.specs.Looked.{Looked, IsNext, IsFound};
+
+use crate::filter::{Filter, Sight};
+use crate::stream::{IntStream, TokenStream};
+use std::marker::PhantomData;
+use token::token::Token;
+use token::token_type::TokenType;
+
+fn is_visible<T: Token>(t: &T) -> bool
+    ensures { result ≡ visible (T.fields t.now) }
+{
+    t.token_type().is_eof() || t.channel() == 0
+}
+
+// Whether token number j, counted from 1, is EOF.
+fn is_eof_at<'a, S: TokenStream<'a>>(below: &mut S, j: u16) -> bool
+    ensures keeps { Keeps S.tape S.shown below.old below.new }
+    ensures eof { result ≡ is_eof (shown_at (S.shown below.old) (pos j)).typ }
+{
+    below.la(i32::from(j)).is_eof()
+}
+
+// The number, counted from 1, of the next visible token after the first `from` of the stream.
+fn next_visible<'a, S: TokenStream<'a>>(below: &mut S, from: u16) -> u16
+    requires { from < length (S.shown below.old) }
+    ensures keeps { Keeps S.tape S.shown below.old below.new }
+    ensures next { IsNext (S.shown below.old) from result }
+{
+    // Kept as a loop: looking may change the stream, which no closure of a proved chain may.
+    let mut j = from + 1;
+    while !is_visible(below.lt(i32::from(j))) {
+        j += 1;
+    }
+    j
+}
+
+// Looks on until the k-th visible token, or EOF if there are fewer, is the last that was looked at.
+fn look_on<'a, S: TokenStream<'a>>(below: &mut S, seen: Option<Sight>, k: usize) -> Sight
+    requires looked { ForSome seen (λ s. Looked (S.shown below.old) s.count s.ahead) }
+    requires more { ForSome seen (λ s. s.count ≤ k) }
+    requires some { 0 < k }
+    ensures keeps { Keeps S.tape S.shown below.old below.new }
+    ensures looked { Looked (S.shown below.old) result.count result.ahead }
+    ensures not_past { result.count ≤ k }
+    ensures found { IsFound (S.shown below.old) k result.ahead }
+{
+    let mut sight = match seen {
+        Some(sight) => sight,
+        None => Sight {
+            count: 1,
+            ahead: next_visible(below, 0),
+        },
+    };
+    while sight.count < k && !is_eof_at(below, sight.ahead) {
+        sight = Sight {
+            count: sight.count + 1,
+            ahead: next_visible(below, sight.ahead),
+        };
+    }
+    sight
+}
+
+// Drops the first n tokens of the stream, among which is no EOF.
+fn pass<'a, S: TokenStream<'a>>(below: &mut S, n: u16)
+    requires { n < length (S.shown below.old) }
+    ensures keeps_tape { S.tape below.new ≡ S.tape below.old }
+    ensures drops { S.shown below.new ≡ drop n (S.shown below.old) }
+{
+    for _ in 0..n {
+        below.consume();
+    }
+}
+
+// k, and 1 for a k below 1: both ask for the same token.
+fn at_least_one(k: i32) -> usize
+    ensures some { 0 < result }
+    ensures alike { (ts : List Fields) → 0 < length ts → shown_at ts (pos result) ≡ shown_at ts k }
+{
+    usize::try_from(k).unwrap_or(0).max(1)
+}
+
+impl<'a, S: TokenStream<'a>> Filter<'a, S> {
+    pub fn new(below: S) -> Filter<'a, S>
+        ensures { result.below ≡ below }
+    {
+        Filter {
+            below,
+            sight: None,
+            tape: PhantomData,
+        }
+    }
+
+    // Which token below, counted from 1, is the k-th that is shown; EOF if there are fewer.
+    fn seek(&mut self, k: i32) -> i32
+        ensures keeps { Keeps S.tape S.shown self.old.below self.new.below }
+        ensures found { shown_at (S.shown self.old.below) result ≡ shown_at (filtered (S.shown self.old.below)) k }
+    {
+        let k = at_least_one(k);
+        let seen = self.sight.filter(|s| s.count <= k);
+        let sight = look_on(&mut self.below, seen, k);
+        self.sight = Some(sight);
+        i32::from(sight.ahead)
+    }
+}
+
+impl<'a, S: TokenStream<'a>> IntStream for Filter<'a, S> {
+    ghost tape = { λ f. S.tape f.below };
+
+    ghost shown = { λ f. filtered (S.shown f.below) };
+
+    ghost lawful = { λ f. filter_shows (S.tape f.below) (S.shown f.below) (S.lawful f.below) };
+
+    fn la(&mut self, k: i32) -> TokenType {
+        let j = self.seek(k);
+        self.below.la(j)
+    }
+
+    fn index(&mut self) -> u16 {
+        let j = self.seek(1);
+        self.below.lt(j).token_index().unwrap_or(0)
+    }
+
+    // Drops the hidden tokens before the first that is shown, too.
+    fn consume(&mut self) {
+        let first = next_visible(&mut self.below, 0);
+        if !is_eof_at(&mut self.below, first) {
+            pass(&mut self.below, first);
+            self.sight = None;
+        }
+    }
+}
+
+impl<'a, S: TokenStream<'a>> TokenStream<'a> for Filter<'a, S> {
+    type Tok = S::Tok;
+
+    type Factory = S::Factory;
+
+    ghost own_factory = { λ f. S.own_factory f.below };
+
+    fn lt(&mut self, k: i32) -> &'a S::Tok {
+        let j = self.seek(k);
+        self.below.lt(j)
+    }
+
+    fn get(&self, i: i32) -> &'a S::Tok {
+        self.below.get(i)
+    }
+
+    fn factory(&self) -> &S::Factory {
+        self.below.factory()
+    }
+}
