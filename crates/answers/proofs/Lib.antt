@@ -1,1 +1,4 @@
+pub mod Listed
+pub mod Verdict
+pub mod Written
 pub mod Zipped

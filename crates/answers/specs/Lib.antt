@@ -1,2 +1,3 @@
 pub mod Asking
+pub mod Tapes
 pub mod Answers

@@ -1,9 +1,10 @@
-// Questions about sets, over any lookahead.
+// Questions about a net, over any lookahead, and about what is shown of a tape.
 ghost use Rattle.std.specs.Prelude.{IfOk};
 ghost use Rattle.atn.specs.Checked.{net_of};
 ghost use Rattle.ll1_analyzer.specs.Answers.{Keeps};
 ghost use Rattle.answers.specs.Asking.{Answer, EachAnswered};
 
+use crate::shown::ShownToken;
 use atn::atn::Atn;
 use errors::denial::Denial;
 use interval_set::set::IntervalSet;
@@ -18,55 +19,74 @@ use script::question::{Ask, Question};
 use script::script_line::LookaheadKind;
 use std::alloc::{AllocError, Global};
 
-// What one question is answered.
-fn answer_one<L: Lookahead>(l: &mut L, ask: &Ask) -> Result<IntervalSet, Denial>
+// What a question is answered: a set of the net or why it is denied, or the tokens that are shown.
+#[derive(Drop)]
+pub enum Reply {
+    Set(Result<IntervalSet, Denial>),
+    Tokens(Vec<ShownToken>),
+}
+
+fn answer_one<L: Lookahead>(
+    heap: Global,
+    l: &mut L,
+    shown: &[ShownToken],
+    ask: &Ask,
+) -> Result<Reply, AllocError>
     ensures keeps { Keeps L.atn L.agrees l.old l.new }
-    ensures answers { L.agrees l.old → Answer (net_of (L.atn l.old)) ask.now result }
+    ensures answers { L.agrees l.old → IfOk result (Answer (net_of (L.atn l.old)) shown.now ask.now) }
 {
     match ask {
-        Ask::Within { state } => next_tokens(l, *state),
-        Ask::InContext { state, chain } => next_tokens_in_ctx(l, *state, chain.as_slice()),
-        Ask::Expected { state, chain } => get_expected_tokens(l, *state, chain.as_slice()),
-        Ask::Recovery { chain } => get_error_recovery_set(l, chain.as_slice()),
+        Ask::Within { state } => Ok(Reply::Set(next_tokens(l, *state))),
+        Ask::InContext { state, chain } => {
+            Ok(Reply::Set(next_tokens_in_ctx(l, *state, chain.as_slice())))
+        }
+        Ask::Expected { state, chain } => {
+            Ok(Reply::Set(get_expected_tokens(l, *state, chain.as_slice())))
+        }
+        Ask::Recovery { chain } => Ok(Reply::Set(get_error_recovery_set(l, chain.as_slice()))),
+        Ask::Tokens => Ok(Reply::Tokens(shown.to_vec(heap)?)),
     }
 }
 
 fn answer_each<L: Lookahead>(
     heap: Global,
     l: &mut L,
+    shown: &[ShownToken],
     questions: &[Question],
-) -> Result<Vec<Result<IntervalSet, Denial>>, AllocError>
-    ensures { L.agrees l.old → IfOk result (λ v. EachAnswered (net_of (L.atn l.old)) questions.now v.items) }
+) -> Result<Vec<Reply>, AllocError>
+    ensures { L.agrees l.old → IfOk result (λ v. EachAnswered (net_of (L.atn l.old)) shown.now questions.now v.items) }
 {
     let mut answers = Vec::new(heap);
     // kept as a loop: an answer may alter the lookahead, which no closure of a proved chain may
     for question in questions {
-        answers.push(answer_one(l, &question.ask))?;
+        answers.push(answer_one(heap, l, shown, &question.ask)?)?;
     }
     Ok(answers)
 }
 
-// What the questions are answered, by the lookahead of that kind. All kinds answer alike.
+// What the questions are answered, by the lookahead of that kind where `shown` is shown. All kinds answer
+// alike.
 pub fn answer_all(
     heap: Global,
     atn: &Atn,
     kind: LookaheadKind,
+    shown: &[ShownToken],
     questions: &[Question],
-) -> Result<Vec<Result<IntervalSet, Denial>>, AllocError>
-    ensures { IfOk result (λ v. EachAnswered (net_of atn.now) questions.now v.items) }
+) -> Result<Vec<Reply>, AllocError>
+    ensures { IfOk result (λ v. EachAnswered (net_of atn.now) shown.now questions.now v.items) }
 {
     match kind {
         LookaheadKind::Walker => {
             let mut walker = LL1Analyzer::new(atn);
-            answer_each(heap, &mut walker, questions)
+            answer_each(heap, &mut walker, shown, questions)
         }
         LookaheadKind::Table => {
             let mut table = Table::new(heap, atn)?;
-            answer_each(heap, &mut table, questions)
+            answer_each(heap, &mut table, shown, questions)
         }
         LookaheadKind::Cache => {
             let mut cache = Cache::new(LL1Analyzer::new(atn));
-            answer_each(heap, &mut cache, questions)
+            answer_each(heap, &mut cache, shown, questions)
         }
     }
 }

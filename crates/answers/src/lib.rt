@@ -3,3 +3,5 @@
 
 pub mod answer;
 pub mod asking;
+pub mod shown;
+pub mod tape;

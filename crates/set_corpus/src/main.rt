@@ -1,4 +1,4 @@
-// Replays the scripts of a file, each followed by the lines `= ANSWER` that it is to print, with each
+// Replays the scripts of two files, each followed by the lines `= ANSWER` that it is to print, with each
 // kind of lookahead, and prints where an answer is another.
 #![tactic(auto)]
 
@@ -40,7 +40,7 @@ fn replay(
 
 // Replays the file's scripts with a lookahead. The cases are read as in corpus; kept apart: a library for
 // both would be longer than this loop.
-fn replay_all(rt: &HostRuntime, text: &str, lookahead: &str) -> anyhow::Result<()> {
+fn replay_all(rt: &HostRuntime, file: &str, text: &str, lookahead: &str) -> anyhow::Result<()> {
     let mut differ = 0u64;
     for (i, case) in text.split("---\n").enumerate() {
         let (script, expected) = case.split_once("= ").context("a script has no answer")?;
@@ -49,14 +49,16 @@ fn replay_all(rt: &HostRuntime, text: &str, lookahead: &str) -> anyhow::Result<(
         }
     }
     let total = text.split("---\n").count();
-    println!(rt; "sets.txt, lookahead {lookahead}: {total} scripts replayed, {differ} differ")?;
+    println!(rt; "{file}, lookahead {lookahead}: {total} scripts replayed, {differ} differ")?;
     Ok(())
 }
 
 fn run(rt: &HostRuntime) -> anyhow::Result<()> {
-    let text = fs::read_to_string(rt, "sets.txt")?;
-    for lookahead in ["walker", "table", "cache"] {
-        replay_all(rt, text.as_str(), lookahead)?;
+    for file in ["sets.txt", "tapes.txt"] {
+        let text = fs::read_to_string(rt, file)?;
+        for lookahead in ["walker", "table", "cache"] {
+            replay_all(rt, file, text.as_str(), lookahead)?;
+        }
     }
     Ok(())
 }

@@ -8,5 +8,5 @@ use Rattle.answers.proofs.asking.answer_each.Given as goal
 abbrev pub invariant-loop-question : goal.invariant-loop-question
 invariant-loop-question g l = record {
   keeps : Keeps g.L.Lookahead.atn g.L.Lookahead.agrees l.fn.l l.l;
-  answered : g.L.Lookahead.agrees l.fn.l → EachAnswered (net_of (g.L.Lookahead.atn l.fn.l)) (take l.question-index l.questions) l.answers.items;
+  answered : g.L.Lookahead.agrees l.fn.l → EachAnswered (net_of (g.L.Lookahead.atn l.fn.l)) l.shown (take l.question-index l.questions) l.answers.items;
 }

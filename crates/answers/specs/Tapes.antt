@@ -1,0 +1,68 @@
+-- What is answered about the tape that the rows of a script write.
+use Rattle.std.specs.Prelude.{◌≡◌, ◌<◌, ◌||◌, ℕ, Bool, true, false, List, length, map, nat_lt, Option, Some, None, Result, IfOk}
+use Rattle.std.specs.Global.{Vec}
+use Rattle.std.specs.List.{list_any}
+use Rattle.errors.specs.Denials.{DeniesFirst}
+use Rattle.errors.specs.declared.denial.Denial.{Denial}
+use Rattle.errors.specs.declared.denial.Denial.TheVariants.{FaultyTape}
+use Rattle.token.specs.declared.token_type.Span.{Span}
+use Rattle.token.specs.Tokens.{Fields}
+use Rattle.token_stream.specs.Tapes.{Sound, token_at}
+use Rattle.token_stream.specs.Streams.{filtered}
+use Rattle.script.specs.declared.question.Ask.{Ask}
+use Rattle.script.specs.declared.question.Ask.TheVariants.{Tokens}
+use Rattle.script.specs.declared.script_line.Show.{Show}
+use Rattle.script.specs.declared.script_line.Show.TheVariants.{All, Channel0}
+use Rattle.script.specs.declared.token_row.TokenRow.{TokenRow}
+use Rattle.script.specs.Asking.{Asking}
+use Rattle.script.specs.Contents.{Content}
+use Rattle.script.specs.TokenRows.{Writes}
+use Rattle.answers.specs.declared.shown.ShownToken.{ShownToken}
+
+-- what a token that is printed says of itself
+abbrev pub token_fields : ShownToken → Fields
+token_fields t = record { typ = t.token_type; channel = t.channel; index = t.index; position = t.position; span = t.span }
+
+-- all tokens of the tape, or EOF and those of channel 0
+abbrev pub shown_by : Show → List Fields → List Fields
+shown_by All tape = tape
+shown_by Channel0 tape = filtered tape
+
+-- each token's own index is its place
+abbrev pub Numbered : List Fields → Type 0
+Numbered ts = (k : ℕ) → k < length ts → (token_at ts k).index ≡ Some k
+
+-- The rows are denied if they write no tape.
+abbrev pub RowsFault : {S : Type 0} → (S → Option Span) → List (TokenRow S) → Denial → Type 0
+RowsFault kept rows d = (d ≡ FaultyTape) × ((tape : List Fields) → Writes kept rows tape → Sound tape → ⊥)
+
+-- The tokens are those shown of the tape that the rows write.
+pub record ShowsRows {S : Type 0} (kept : S → Option Span) (rows : List (TokenRow S)) (show : Show) (tokens : List ShownToken) : Type 0 where
+  pub tape : List Fields
+  pub written : Writes kept rows tape
+  pub sound : Sound tape
+  pub shown : map token_fields tokens ≡ shown_by show tape
+
+abbrev pub RowsAnswered : {S : Type 0} → (S → Option Span) → List (TokenRow S) → Show → Result (Vec ShownToken) Denial → Type 0
+RowsAnswered kept rows show r = DeniesFirst (RowsFault kept rows) r × IfOk r (λ v. ShowsRows kept rows show v.items)
+
+-- A script has a tape of events if it has a row of one, and else of words.
+pub record TapeAnswered (k : Content) (show : Show) (r : Result (Vec ShownToken) Denial) : Type 0 where
+  pub lanes : 0 < length k.lanes → RowsAnswered (λ _. None) k.lanes show r
+  pub words : length k.lanes ≡ 0 → RowsAnswered Some k.words show r
+
+abbrev pub asks_tokens : Ask → Bool
+asks_tokens Tokens = true
+asks_tokens a = false
+
+abbrev pub has_rows : Content → Bool
+has_rows k = nat_lt 0 (length k.words) || nat_lt 0 (length k.lanes)
+
+-- something of the script needs a tape: a row of it, or a question for its tokens
+abbrev pub needs_tape : Content → Asking → Bool
+needs_tape k a = has_rows k || list_any (λ q. asks_tokens q.ask) a.questions
+
+-- Only a tape that is needed is checked.
+abbrev pub TapeSaid : Content → Asking → Option (Result (Vec ShownToken) Denial) → Type 0
+TapeSaid k a None = needs_tape k a ≡ false
+TapeSaid k a (Some r) = (needs_tape k a ≡ true) × TapeAnswered k a.show r
