@@ -14,12 +14,6 @@ use Rattle.atn.specs.Passes.{over_by, Falls, AllNull, Pass}
 use Rattle.atn.proofs.Growth.{grown_noted}
 use Rattle.atn.proofs.Some.{no_edges}
 
-pub pass_none : (n : Net) (xs : List ℕ) → Pass n 0 xs xs
-pass_none n xs = record { right = λ h. h; longer = omega arith; same = λ e. refl; done = λ e s l. absurd (none s l) }
-  where
-    none : (s : ℕ) → s < 0 → ⊥
-    none s l = omega arith
-
 -- a state that adds nothing
 pub pass_skip : (n : Net) (s : ℕ) (a b : List ℕ) → Pass n s a b → (Falls n b s → elem s b ≡ true) → Pass n (s + 1) a b
 pass_skip n s a b p d = record { right = p.right; longer = p.longer; same = p.same; done = λ e i l f. at e i l f (cases_eq i s) }

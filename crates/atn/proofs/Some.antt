@@ -14,9 +14,6 @@ use Rattle.atn.specs.Among.{Among}
 
 -- a run of edges, one edge longer
 module _ {P : Transition → Type 0} (n : Net) (low : ℕ) where
-  pub among_none : Among P n low low → ⊥
-  among_none h = omega (arith, h.from, h.below)
-
   pub among_more : (j : ℕ) → low ≤ j → Among P n low j ⊎ P (edge_at n j) → Among P n low (j + 1)
   among_more j l (inl h) = record { number = h.number; from = h.from; below = omega (arith, h.below); holds = h.holds }
   among_more j l (inr h) = record { number = j; from = l; below = omega arith; holds = h }

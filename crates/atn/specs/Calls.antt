@@ -1,5 +1,5 @@
 -- Calls of a start state.
-use Rattle.std.specs.Prelude.{◌≡◌, ℕ, ◌<◌, Bool, true, false, List, length, ◌==◌, slice_index}
+use Rattle.std.specs.Prelude.{◌≡◌, ℕ, Bool, true, false, ◌==◌}
 use Rattle.std.specs.List.{list_any}
 use Rattle.atn_graph.specs.declared.transition.Move.{Move}
 use Rattle.atn_graph.specs.declared.transition.Move.TheVariants.{Along, Call, Token}
@@ -28,10 +28,3 @@ Calls n s t = CallsAmong n t (state_at n s).first (state_at n s).end
 -- a test for that
 abbrev pub calls : Net → ℕ → ℕ → Bool
 calls n s t = list_any (is_call t) (edges_of n s)
-
--- one of the first states of the list calls t
-pub record Called (n : Net) (xs : List ℕ) (upto t : ℕ) : Type 0 where
-  pub place : ℕ
-  pub inside : place < length xs
-  pub before : place < upto
-  pub calls : Calls n (slice_index xs place) t

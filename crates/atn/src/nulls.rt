@@ -2,7 +2,7 @@
 use crate::visits::Visits;
 use atn_graph::graph::Graph;
 
-// A graph, and states of it that are null.
+// A graph, and the states of it that walks may step over: the null ones, as `of` finds them.
 #[derive(Clone, Copy)]
 pub struct NullStates<'g> {
     pub graph: &'g Graph,

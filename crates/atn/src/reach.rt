@@ -39,7 +39,7 @@ impl NullStates<'_> {
         }
     }
 
-    // The states that s reaches over the null states, none of a state outside the net. Each state
+    // The states that s reaches over the states at hand, none of a state outside the net. Each state
     // found is visited once, in the order of finding.
     pub fn reach(&self, s: usize) -> Visits
         ensures inside { s < size (net self.now.graph.now.lists) → KnowsReachedOver (Listed (found self.now.states)) (net self.now.graph.now.lists) s (found result) }

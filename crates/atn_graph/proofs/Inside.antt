@@ -86,9 +86,6 @@ module _ (g : Graph) (s j : ℕ) (l : s < size (net g.lists)) (of : Of (net g.li
   pub follow_inside : (f : ℕ) → move_of (edge_at (net g.lists) j).kind ≡ Call f → f < size (net g.lists)
   follow_inside f e = let n = net g.lists in subst (GoesOnInside n) e (kind_follow n (state_at n s) (edge_at n j).target (edge_at n j).kind (((sound_of g).states s l).edges j of))
 
-pub start_inside : (g : Graph) (r : ℕ) → r < length (net g.lists).rules → (rule_at (net g.lists) r).start < size (net g.lists)
-start_inside g r l = in_net (net g.lists) _ r ((sound_of g).rules r l).start
-
 -- each edge before the place where the first k states' edges end is one of theirs
 owner_before : (n : Net) → Runs n → (j k : ℕ) → k ≤ size n → j < end_before n.states k → (s : ℕ) × (s < size n) × Of n s j
 owner_before n r j zero l h = absurd (none h)

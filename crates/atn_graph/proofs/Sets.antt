@@ -1,6 +1,6 @@
 -- Sets and not-sets: each of their intervals fits.
-use Rattle.std.proofs.Common.{◌≡◌, ℕ, ◌+◌, ◌<◌, ◌≤◌, true, List, length, get_or, drop, ◌∙◌, arith}
-use Rattle.std.proofs.lemmas.List.{get_or-drop, get_or-take, length-take-le, length-drop}
+use Rattle.std.proofs.Common.{◌≡◌, ℕ, ◌+◌, ◌<◌, ◌≤◌, true, List, length, get_or, drop, arith}
+use Rattle.std.proofs.lemmas.List.{length-take-le, length-drop}
 use Rattle.std.proofs.lemmas.List.Sums.{AllPass-from_list_all}
 use Rattle.interval_set.specs.declared.interval.Interval.{Interval}
 use Rattle.atn_graph.specs.Net.{Net}
@@ -12,6 +12,3 @@ all_fit_at n xs k d h l = AllPass-from_list_all (interval_fits n) xs h k d l
 
 pub part_length : (n : Net) (first count : ℕ) → first + count ≤ length n.intervals → length (part n first count) ≡ count
 part_length n first count l = length-take-le count (drop first n.intervals) (simp length-drop (omega arith))
-
-pub part_at : (n : Net) (first count k : ℕ) (d : Interval) → k < count → get_or (part n first count) k d ≡ get_or n.intervals (first + k) d
-part_at n first count k d l = get_or-take count (drop first n.intervals) k d l ∙ get_or-drop first n.intervals k d

@@ -9,14 +9,5 @@ use Rattle.atn_graph.specs.Net.{net, size}
 pub few_items : {T : Type 0} {N : ℕ} (v : FixedVec T N) → length (items v) ≤ N
 few_items v = omega (arith, length-take-le v.len v.places (omega (arith, v.whole, v.few)), v.few)
 
-pub few_rules : (l : Lists) → length (net l).rules ≤ 64
-few_rules l = few_items l.rules
-
 pub few_states : (l : Lists) → size (net l) ≤ 512
 few_states l = few_items l.states
-
-pub few_edges : (l : Lists) → length (net l).edges ≤ 2048
-few_edges l = few_items l.edges
-
-pub few_intervals : (l : Lists) → length (net l).intervals ≤ 1024
-few_intervals l = few_items l.intervals

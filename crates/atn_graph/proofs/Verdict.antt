@@ -1,15 +1,15 @@
 -- Tables write at most one net, so the net that was read is the one that the verdict is about.
-use Rattle.std.proofs.Common.{◌≡◌, ◌<◌, true, false, ◌||◌, length, get_or, take, sym, ap, ◌∙◌, subst, arith}
+use Rattle.std.proofs.Common.{◌≡◌, ◌<◌, true, false, length, get_or, take, sym, ap, ◌∙◌, subst, arith}
 use Rattle.std.proofs.lemmas.List.{ext_get_or}
 use Rattle.std.proofs.lemmas.Bool.{both_ways}
 use Rattle.errors.specs.declared.denial.Denial.{Denial}
 use Rattle.errors.specs.declared.denial.Denial.TheVariants.{ShortTable, OutsideLimits, BrokenRule}
 use Rattle.errors.specs.Denials.{denial_number, First}
 use Rattle.atn_graph.specs.declared.lists.Rule.{Rule}
-use Rattle.atn_graph.specs.Tables.{Rows, short_table, outside_limits, counts_outside, outside}
-use Rattle.atn_graph.specs.Net.{Net, Runs, size, no_rule, no_state, no_edge, rule_at, edge_at}
+use Rattle.atn_graph.specs.Tables.{Rows, short_table, outside_limits}
+use Rattle.atn_graph.specs.Net.{Net, size, no_rule, no_state, no_edge, rule_at, edge_at}
 use Rattle.atn_graph.specs.Written.{Writes, rule_row, no_edge_row}
-use Rattle.atn_graph.specs.Rules.{Sound, counts_of, beyond_limits}
+use Rattle.atn_graph.specs.Rules.{Sound}
 use Rattle.atn_graph.specs.Faults.{Fault}
 use Rattle.atn_graph.proofs.ReadTables.{same_count}
 use Rattle.atn_graph.proofs.Once.{index_of, states_once, edge_once}
@@ -47,18 +47,6 @@ net_once t n m w v i = record { max = max i; rules = rules i; states = states i;
 
     intervals : n.intervals ≡ m.intervals
     intervals = w.intervals ∙ ap (λ k. take k t.intervals) interval_count ∙ sym v.intervals
-
-pub runs_written : (t : Rows) (n : Net) → Writes t n → Runs n
-runs_written t n w s l = let x = w.states s l in (x.begins, x.rises)
-
--- the limits of the tables are those of the net
-pub limits_written : (t : Rows) (n : Net) → Writes t n → outside_limits t ≡ false → beyond_limits n ≡ false
-limits_written t n w e =
-    let r = w.rule_count in let s = w.state_count in let j = w.edge_count in let k = w.interval_count in
-    ap (λ c. counts_outside c || outside 1 255 n.max) same ∙ ap (λ x. counts_outside t.counts || outside 1 255 x) w.max ∙ e
-  where
-    same : counts_of n ≡ t.counts
-    same i = record { rules = w.rule_count i; states = w.state_count i; edges = w.edge_count i; intervals = w.interval_count i }
 
 -- the first denials, and none
 pub first_short : (t : Rows) → short_table t ≡ true → First (Fault t) ShortTable

@@ -8,13 +8,13 @@ use Rattle.atn_graph.specs.Kinds.{transition_number}
 use Rattle.atn_graph.specs.Net.{no_state, end_before}
 use Rattle.atn_graph.specs.Written.{Columns, WritesState, no_state_row}
 
--- the count is that of rows which the table has
-abbrev pub Counts : {R : Type 0} → ℤ → List R → Type 0
-Counts count table = (pos 0 ≤ℤ count) × (count ≤ℤ pos (length table))
+-- the table has at least that count of rows, which is not below 0
+abbrev pub IsCount : {R : Type 0} → ℤ → List R → Type 0
+IsCount count table = (pos 0 ≤ℤ count) × (count ≤ℤ pos (length table))
 
--- its first count rows
-abbrev pub Cut : {R : Type 0} → ℤ → List R → List R → Type 0
-Cut count table rows = (pos (length rows) ≡ count) × (rows ≡ take (length rows) table)
+-- the first count rows of the table
+abbrev pub FirstRows : {R : Type 0} → ℤ → List R → List R → Type 0
+FirstRows count table rows = (pos (length rows) ≡ count) × (rows ≡ take (length rows) table)
 
 abbrev pub KindRead : EdgeRow → TransitionKind → Type 0
 KindRead row k = (row.kind ≡ pos (transition_number k)) × Columns row k

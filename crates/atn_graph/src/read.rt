@@ -3,7 +3,7 @@ ghost use Rattle.std.specs.Prelude.{◌≡◌, ◌+◌, ◌^◌, ◌<◌, ◌≤
 ghost use Rattle.std.specs.List.{Any, AllZip};
 ghost use Rattle.fixed_vec.specs.Items.{items};
 ghost use Rattle.atn_graph.specs.declared.lists.Rule.{Rule as RuleStates};
-ghost use Rattle.atn_graph.specs.Reading.{Counts, Cut, KindRead, StatesRead};
+ghost use Rattle.atn_graph.specs.Reading.{IsCount, FirstRows, KindRead, StatesRead};
 ghost use Rattle.atn_graph.specs.Net.{Net, net};
 ghost use Rattle.atn_graph.specs.Tables.{rows, short_table, outside_limits};
 ghost use Rattle.atn_graph.specs.Written.{rule_row, WritesState, WritesEdge, Writes};
@@ -24,8 +24,8 @@ fn index(n: i32) -> Option<usize>
 
 // The rows of a table that count.
 fn counted<R>(table: &[R], count: i32) -> &[R]
-    requires { Counts count table.now }
-    ensures { Cut count table.now result.now }
+    requires { IsCount count table.now }
+    ensures { FirstRows count table.now result.now }
 {
     &table[..count as usize]
 }

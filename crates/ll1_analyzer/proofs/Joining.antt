@@ -36,17 +36,6 @@ pub record SoFar (n : Net) (all : List ℕ) (set : IntervalSet) (rest : List ℕ
   pub to : (x : ℤ) → Joined n all x → Part n set rest x
   pub from : (x : ℤ) → Part n set rest x → Joined n all x
 
-pub first_joined : (n : Net) (s : ℕ) (set : IntervalSet) (rest : List ℕ) → HoldsExactly set (Within n s) → SoFar n (s ∷ rest) set rest
-first_joined n s set rest h = record { to = to; from = from }
-  where
-    to : (x : ℤ) → Joined n (s ∷ rest) x → Part n set rest x
-    to x (inl j) = inl (j.0, (h x).1 j.1)
-    to x (inr j) = inr ((h epsilon).1 j.0, j.1)
-
-    from : (x : ℤ) → Part n set rest x → Joined n (s ∷ rest) x
-    from x (inl p) = inl (p.0, (h x).0 p.1)
-    from x (inr p) = inr ((h epsilon).0 p.0, p.1)
-
 pub next_joined : (n : Net) (all : List ℕ) (set mid more after : IntervalSet) (f : ℕ) (rest : List ℕ) → SoFar n all set (f ∷ rest) → holds set epsilon ≡ true → TakenOut set mid → HoldsExactly more (Within n f) → ((x : ℤ) → holds after x ≡ (holds mid x || holds more x)) → SoFar n all after rest
 next_joined n all set mid more after f rest so on out h both = record { to = λ x j. to x (so.to x j); from = λ x p. so.from x (from x p) }
   where
@@ -96,9 +85,6 @@ pub record WithinBefore (n : Net) (follows : List ℕ) (upto : ℕ) (x : ℤ) : 
   pub within : Within n (get_or follows place 0) x
 
 module _ (n : Net) (follows : List ℕ) (x : ℤ) where
-  pub joined_none : (b : Bool) → b ≡ false → Decides b (WithinBefore n follows 0 x)
-  joined_none b e = (λ h. absurd (both_ways b e h), λ t. absurd (omega (arith, t.before)))
-
   pub joined_more : (i : ℕ) (b more : Bool) → i < length follows → Decides b (WithinBefore n follows i x) → Decides more (Within n (get_or follows i 0) x) → Decides (b || more) (WithinBefore n follows (i + 1) x)
   joined_more i b more l d e = decides_like (b || more) to from (Decides-or b more d e)
     where

@@ -1,5 +1,5 @@
 -- The calls of a chain, state by state.
-use Rattle.std.proofs.Common.{◌≡◌, ℕ, ◌+◌, ◌<◌, ◌≤◌, ◌⊎◌, List, [], ◌∷◌, ◌++◌, length, get_or, take, Some, None, Result, Ok, Err, IsErrAnd, sym, refl, ap, ◌∙◌, inl, inr, arith}
+use Rattle.std.proofs.Common.{◌≡◌, ℕ, ◌+◌, ◌<◌, ◌≤◌, ◌⊎◌, List, [], ◌∷◌, ◌++◌, length, get_or, take, Some, None, Result, Ok, Err, IsErrAnd, sym, ap, ◌∙◌, inl, inr, arith}
 use Rattle.std.specs.Prelude.{map, unwrap_or}
 use Rattle.std.proofs.lemmas.List.{take_more, length_push, map-append, get_or_default}
 use Rattle.std.proofs.lemmas.Bool.{cases_eq}
@@ -20,12 +20,6 @@ pub record ReadSoFar (n : Net) (chain : List ℕ) (upto : ℕ) (calls : List Rul
   pub call : (k : ℕ) → k < upto → follow_of n (get_or chain k 0) ≡ None → ⊥
 
 module _ (n : Net) (chain : List ℕ) where
-  pub read_none : ReadSoFar n chain 0 []
-  read_none = record { count = refl; read = refl; call = λ k l. absurd (none k l) }
-    where
-      none : (k : ℕ) → k < 0 → ⊥
-      none k l = omega arith
-
   pub read_more : (i : ℕ) (calls : List RuleTransition) (c : RuleTransition) → i < length chain → Some (follow c) ≡ follow_of n (get_or chain i 0) → ReadSoFar n chain i calls → ReadSoFar n chain (i + 1) (calls ++ c ∷ [])
   read_more i calls c l e so = record { count = length_push calls c ∙ ap (λ k. k + 1) so.count; read = read; call = λ k h. at k h (cases_eq k i) }
     where

@@ -1,5 +1,5 @@
 -- The states that a state reaches take the types of its within-rule set.
-use Rattle.std.proofs.Common.{◌≡◌, ℕ, ◌+◌, ◌<◌, ◌≤◌, Bool, true, false, ◌||◌, ◌⊎◌, List, [], length, get_or, ℤ, Decides, sym, refl, ap, subst, inl, inr, arith}
+use Rattle.std.proofs.Common.{◌≡◌, ℕ, ◌+◌, ◌<◌, ◌≤◌, Bool, true, ◌||◌, ◌⊎◌, List, [], length, get_or, ℤ, Decides, sym, refl, ap, subst, inl, inr, arith}
 use Rattle.std.proofs.lemmas.Int.{ints}
 use Rattle.std.proofs.lemmas.Bool.{cases_eq, both_ways}
 use Rattle.std.proofs.lemmas.Bool.Decides.{Decides-or}
@@ -27,9 +27,6 @@ pub record TakenBefore (n : Net) (xs : List ℕ) (upto : ℕ) (x : ℤ) : Type 0
   pub takes : TakesAt n (get_or xs place 0) x
 
 module _ (n : Net) (xs : List ℕ) (x : ℤ) where
-  pub before_none : (b : Bool) → b ≡ false → Decides b (TakenBefore n xs 0 x)
-  before_none b e = (λ h. absurd (both_ways b e h), λ t. absurd (omega (arith, t.before)))
-
   pub before_more : (i : ℕ) (b c : Bool) → i < length xs → Decides b (TakenBefore n xs i x) → Decides c ((b ≡ true) ⊎ TakesAt n (get_or xs i 0) x) → Decides c (TakenBefore n xs (i + 1) x)
   before_more i b c l d e = decides_like c to from e
     where
