@@ -60,8 +60,8 @@ same_tape kept rows ts us v w numbered sound =
 pub numbered_push : (ts : List Fields) (t : Fields) → Numbered ts → t.index ≡ Some (length ts) → Numbered (ts ++ t ∷ [])
 numbered_push ts t numbered is k l =
     elim (cases_lt k (length ts)) [
-      inl before ↦ ap (λ u. u.index) (get_or_append_left ts (t ∷ []) no_token k before) ∙ numbered k before
-    | inr last ↦
-      let at : k ≡ length ts = omega (arith, l, last, length_push ts t) in
-      ap (λ u. u.index) (get_or_push ts t no_token k (sym at)) ∙ is ∙ ap Some (sym at)
+      | inl before ↦ ap (λ u. u.index) (get_or_append_left ts (t ∷ []) no_token k before) ∙ numbered k before
+      | inr last ↦
+          let at : k ≡ length ts = omega (arith, l, last, length_push ts t) in
+          ap (λ u. u.index) (get_or_push ts t no_token k (sym at)) ∙ is ∙ ap Some (sym at)
     ]

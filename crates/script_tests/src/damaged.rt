@@ -4,7 +4,7 @@ use std::alloc::Global;
 use std::process::Abort;
 use std::test::*;
 
-const TOO_FEW: [(&str, &str); 6] = [
+const TOO_FEW: [(&str, &str); 8] = [
     ("net", "line 1: expected net MAX, one number"),
     (
         "net 1\ncounts 1 2 3",
@@ -26,9 +26,17 @@ const TOO_FEW: [(&str, &str); 6] = [
         "net 1\ninterval 1",
         "line 2: expected interval LOW HIGH, two numbers",
     ),
+    (
+        "net 1\nword 1 0 1 0 0",
+        "line 2: expected word TYPE CHANNEL LINE COLUMN START STOP, six numbers",
+    ),
+    (
+        "net 1\nlane 1 0 1",
+        "line 2: expected lane TYPE CHANNEL LINE COLUMN, four numbers",
+    ),
 ];
 
-const TOO_MANY: [(&str, &str); 7] = [
+const TOO_MANY: [(&str, &str); 9] = [
     ("net 1 2", "line 1: expected net MAX, one number"),
     (
         "counts 1 2 3 4 5",
@@ -51,6 +59,14 @@ const TOO_MANY: [(&str, &str); 7] = [
         "line 1: expected interval LOW HIGH, two numbers",
     ),
     ("summary 1", "line 1: expected summary, no number"),
+    (
+        "word 1 0 1 0 0 0 0",
+        "line 1: expected word TYPE CHANNEL LINE COLUMN START STOP, six numbers",
+    ),
+    (
+        "lane 1 0 1 0 0 0",
+        "line 1: expected lane TYPE CHANNEL LINE COLUMN, four numbers",
+    ),
 ];
 
 const NO_NUMBER: [(&str, &str); 6] = [
@@ -83,19 +99,19 @@ const NO_NUMBER: [(&str, &str); 6] = [
 const UNKNOWN: [(&str, &str); 4] = [
     (
         "Net 1",
-        "line 1: expected net, counts, rule, state, edge, interval or summary",
+        "line 1: expected net, counts, rule, state, edge, interval, word, lane or summary",
     ),
     (
         "net 1\nnets 1\n",
-        "line 2: expected net, counts, rule, state, edge, interval or summary",
+        "line 2: expected net, counts, rule, state, edge, interval, word, lane or summary",
     ),
     (
         "net 1\n-\nrule",
-        "line 2: expected net, counts, rule, state, edge, interval or summary",
+        "line 2: expected net, counts, rule, state, edge, interval, word, lane or summary",
     ),
     (
         "net 1\n7 # 8",
-        "line 2: expected net, counts, rule, state, edge, interval or summary",
+        "line 2: expected net, counts, rule, state, edge, interval, word, lane or summary",
     ),
 ];
 
@@ -114,7 +130,7 @@ const NO_NET: [(&str, &str); 3] = [
     ),
 ];
 
-const NO_QUESTION: [(&str, &str); 8] = [
+const NO_QUESTION: [(&str, &str); 11] = [
     ("net 1\nwithin", "line 2: expected within S, one number"),
     ("net 1\nwithin 1 2", "line 2: expected within S, one number"),
     (
@@ -141,9 +157,26 @@ const NO_QUESTION: [(&str, &str); 8] = [
         "net 1\nlookahead Table",
         "line 2: expected lookahead walker, table or cache",
     ),
+    ("net 1\nshow", "line 2: expected show all or channel0"),
+    (
+        "net 1\nshow channel1",
+        "line 2: expected show all or channel0",
+    ),
+    ("net 1\ntokens 1", "line 2: expected tokens, no number"),
 ];
 
-const TOO_LATE: [(&str, &str); 6] = [
+const OTHER_KIND: [(&str, &str); 2] = [
+    (
+        "net 1\nword 1 0 1 0 0 0\nlane -1 0 1 0",
+        "line 3: expected a token of the kind of those before it",
+    ),
+    (
+        "lane 1 0 1 0\nnet 1\nword -1 0 1 0 0 0",
+        "line 3: expected a token of the kind of those before it",
+    ),
+];
+
+const TOO_LATE: [(&str, &str); 8] = [
     (
         "net 1\nwithin 0\nrule 1",
         "line 3: expected a question: rows and options come before the first one",
@@ -166,6 +199,14 @@ const TOO_LATE: [(&str, &str); 6] = [
     ),
     (
         "net 1\nwithin 0\nlookahead table",
+        "line 3: expected a question: rows and options come before the first one",
+    ),
+    (
+        "net 1\ntokens\nword -1 0 1 0 0 0",
+        "line 3: expected a question: rows and options come before the first one",
+    ),
+    (
+        "net 1\nwithin 0\nshow all",
         "line 3: expected a question: rows and options come before the first one",
     ),
 ];
@@ -209,6 +250,11 @@ fn no_net_line(rt: HostRuntime) -> Result<(), Fail> {
 #[test]
 fn words_that_are_no_question(rt: HostRuntime) -> Result<(), Fail> {
     refused(&rt, rt.alloc(), &NO_QUESTION)
+}
+
+#[test]
+fn tokens_of_both_kinds(rt: HostRuntime) -> Result<(), Fail> {
+    refused(&rt, rt.alloc(), &OTHER_KIND)
 }
 
 #[test]

@@ -8,4 +8,6 @@ mod many;
 #[cfg(test)]
 mod questions;
 #[cfg(test)]
+mod tapes;
+#[cfg(test)]
 mod valid;

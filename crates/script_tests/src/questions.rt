@@ -6,7 +6,7 @@ use std::process::Abort;
 use std::test::*;
 
 // A loop of the tokens 1, 2 and 3, and the end of the input.
-const PASS: &str =
+pub(crate) const PASS: &str =
     "net 3\nrule 0 5\nrule 6 10\nstate 0 2 1\nstate 0 10 2\nstate 0 1 1\nstate 0 9 1\nstate 0 1 1\nstate 0 7 0\nstate 1 2 1\nstate 1 1 1\nstate 1 1 1\nstate 1 1 1\nstate 1 7 0\nedge 1 1 0 0\nedge 1 2 0 0\nedge 1 4 0 0\nedge 3 6 1 3\nedge 1 1 0 0\nedge 5 5 -1 0\nedge 1 7 0 0\nedge 5 8 1 0\nedge 5 9 2 0\nedge 5 10 3 0\n";
 
 const ASKED: [(&str, &str); 18] = [
@@ -37,7 +37,7 @@ const ASKED: [(&str, &str); 18] = [
 ];
 
 // What is printed for the script.
-fn printed(heap: Global, text: &str) -> Result<String, Fail> {
+pub(crate) fn printed(heap: Global, text: &str) -> Result<String, Fail> {
     let script = parse(heap, text)?;
     let answer = ScriptAnswer::of(heap, &script)?.ok_or("no answer")?;
     Ok(answer.to_string(heap)?)

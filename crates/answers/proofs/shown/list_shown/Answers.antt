@@ -14,7 +14,7 @@ loop-tokens-preserved g c =
     let count : c.len-ahead.result ≡ length items = search rules in
     let ahead : to_z w32 (c.len-ahead.result + 1) ≡ pos (length items + 1) = to_z_pos w32 (c.len-ahead.result + 1) (omega (arith, count, law.few, c.loop-tokens.invariant.more)) ∙ ap (λ n. pos (n + 1)) count in
     let is : token_fields c.of-token.result ≡ shown_at shown (pos (length items + 1)) =
-      c.of-token.ensures ∙ c.lt.ensures.token_ahead ∙ ap (λ ts. shown_at ts (to_z w32 (c.len-ahead.result + 1))) c.loop-tokens.invariant.keeps.same_shown ∙ ap (shown_at shown) ahead in
+    c.of-token.ensures ∙ c.lt.ensures.token_ahead ∙ ap (λ ts. shown_at ts (to_z w32 (c.len-ahead.result + 1))) c.loop-tokens.invariant.keeps.same_shown ∙ ap (shown_at shown) ahead in
     let pushed = c.in_ok-push.ensures.items in
     let long = ap length pushed ∙ length_push items c.of-token.result in
     let next = one_more (g.S.IntStream.tape c.args.stream.now) shown law (length items) c.loop-tokens.invariant.more _ is (map token_fields items) c.loop-tokens.invariant.first in

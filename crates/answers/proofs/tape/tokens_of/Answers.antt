@@ -15,9 +15,11 @@ returns-in_default-clause-none g c = (refl, λ tape written sound. c.in_default.
 pub returns-in_default-token-clause-none : goal.returns-in_default-token-clause-none
 returns-in_default-token-clause-none g c =
     let writes = WritesToken g.S.KeptSpan.kept in
-    let row = c.row-item.result in
-    (refl, λ tape written sound. c.in_default-token.ensures.written (token_at tape c.loop-row.row-index)
-    (subst (λ r. writes r (token_at tape c.loop-row.row-index)) (sym c.row-item.is) (zip_at writes c.args.rows.now tape c.loop-row.row-index row no_token written c.loop-row-test.true)))
+    let row = c.row-item.result in (
+      refl,
+      λ tape written sound. c.in_default-token.ensures.written (token_at tape c.loop-row.row-index)
+          (subst (λ r. writes r (token_at tape c.loop-row.row-index)) (sym c.row-item.is) (zip_at writes c.args.rows.now tape c.loop-row.row-index row no_token written c.loop-row-test.true)),
+    )
 
 pub loop-row-preserved : goal.loop-row-preserved
 loop-row-preserved g c =
