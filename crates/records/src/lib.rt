@@ -1,0 +1,6 @@
+// Leaves and reports: what the parser tells the world.
+#![tactic(auto)]
+
+pub mod bounded_list;
+pub mod leaf;
+pub mod listing;
