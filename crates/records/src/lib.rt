@@ -3,4 +3,7 @@
 
 pub mod bounded_list;
 pub mod leaf;
+pub mod leaf_list;
+pub mod leaf_table;
 pub mod listing;
+pub mod try_it;

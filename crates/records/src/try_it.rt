@@ -1,0 +1,22 @@
+ghost use Rattle.std.specs.Prelude.{◌≡◌, ◌<◌, List, [], ◌∷◌, ◌++◌, drop, length};
+ghost use Rattle.records.specs.Adding.{Grown};
+use crate::leaf::Leaf;
+use crate::leaf_list::LeafList;
+use crate::bounded_list::BoundedList;
+use crate::leaf_table::LeafTable;
+
+pub fn add_two<L: LeafList>(l: &mut L, a: Leaf, b: Leaf)
+    ensures same_memory { L.lent l.new ≡ L.lent l.old }
+    ensures two { 1 < L.free l.old → Grown L.leaves L.free L.rest L.size l.old (a ∷ b ∷ []) l.new }
+{
+    let _ = l.add(a);
+    let _ = l.add(b);
+}
+
+pub fn fill(table: &mut [Leaf], a: Leaf, b: Leaf)
+    requires { 1 < length table.old }
+    ensures { table.new ≡ a ∷ b ∷ drop 2 table.old }
+{
+    let mut t: LeafTable = BoundedList::new(table);
+    add_two(&mut t, a, b);
+}
