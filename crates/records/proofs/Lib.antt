@@ -1,0 +1,2 @@
+pub mod Justified
+pub mod Lines

@@ -1,7 +1,8 @@
 -- What a leaf says, and the limits of its fields.
-use Rattle.std.specs.Prelude.{ℕ, ◌<◌, ◌≤◌, Option}
+use Rattle.std.specs.Prelude.{ℕ, ◌<◌, ◌≤◌, pos, ◌≤ℤ◌, Option}
 use Rattle.std.specs.Option.{ForSome}
 use Rattle.token.specs.declared.token_type.TokenType.{TokenType}
+use Rattle.token.specs.Tokens.{type_number}
 use Rattle.records.specs.declared.leaf.LeafKind.{LeafKind}
 use Rattle.records.specs.declared.leaf.LeafKind.TheVariants.{Terminal, Error}
 
@@ -25,6 +26,7 @@ pub record LeafFits (l : Said) : Type 0 where
   pub some_open : 0 < l.depth
   pub depth : l.depth ≤ 64
   pub rule : l.rule ≤ 63
+  pub typ : type_number l.typ ≤ℤ pos 255
   pub index : ForSome l.index (λ i. i ≤ 65534)
   pub line : l.line ≤ 1000000
   pub column : l.column ≤ 1000000

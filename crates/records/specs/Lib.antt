@@ -1,3 +1,4 @@
 pub mod Lists
 pub mod Leaves
 pub mod Adding
+pub mod LeafLines

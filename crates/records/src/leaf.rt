@@ -23,13 +23,13 @@ impl LeafKind {
 // A token in its place in the tree.
 #[derive(Clone, Copy, PartialEq, Eq, Debug)]
 pub struct Leaf {
-    kind: LeafKind,
-    depth: u8,
-    rule: u8,
-    token_type: TokenType,
-    index: Option<u16>,
-    line: u32,
-    column: u32,
+    pub(crate) kind: LeafKind,
+    pub(crate) depth: u8,
+    pub(crate) rule: u8,
+    pub(crate) token_type: TokenType,
+    pub(crate) index: Option<u16>,
+    pub(crate) line: u32,
+    pub(crate) column: u32,
 }
 
 impl Model for Leaf {

@@ -2,6 +2,7 @@
 #![tactic(auto)]
 
 pub mod bounded_list;
+pub mod columns;
 pub mod leaf;
 pub mod leaf_list;
 pub mod leaf_table;

@@ -45,4 +45,19 @@ impl<'a, T: Copy> BoundedList<'a, T> {
         self.len += 1;
         Ok(())
     }
+
+    // All of the records, or none of them.
+    pub fn extend_from_slice(&mut self, xs: &[T]) -> Result<(), Full>
+        ensures same_memory { self.new.slots.ghost_name ≡ self.old.slots.ghost_name }
+        ensures room { length xs.now ≤ length (behind self.old) → (result ≡ Ok tt) × (listed self.new ≡ listed self.old ++ xs.now) × (behind self.new ≡ drop (length xs.now) (behind self.old)) }
+        ensures full { length (behind self.old) < length xs.now → (result ≡ Err (record {})) × (self.new ≡ self.old) }
+    {
+        if self.free() < xs.len() {
+            return Err(Full);
+        }
+        let end = self.len + xs.len();
+        self.slots[self.len..end].copy_from_slice(xs);
+        self.len = end;
+        Ok(())
+    }
 }

@@ -1,0 +1,10 @@
+use Rattle.std.proofs.Common.{◌≡◌, ◌++◌, ◌+◌, ◌-◌, ◌≤◌, take, length, refl, sym, ap, ◌∙◌, arith, rules, replicate}
+use Rattle.std.specs.Fmt.{signed_decimal}
+use Rattle.records.proofs.Justified.{put_last}
+use Rattle.records.proofs.columns.column.Goals as goal
+
+pub returns : goal.returns
+returns c =
+    let n = c.args.n in
+    let text : c.as_bytes-digits.result.now ≡ signed_decimal n = search rules in
+    rw (c.copy_from_slice.ensures.after, text) (put_last (signed_decimal n) c.requires)
