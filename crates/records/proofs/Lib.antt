@@ -1,2 +1,1 @@
 pub mod Justified
-pub mod Lines

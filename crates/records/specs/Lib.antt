@@ -2,3 +2,5 @@ pub mod Lists
 pub mod Leaves
 pub mod Adding
 pub mod LeafLines
+pub mod Lengths
+pub mod Single

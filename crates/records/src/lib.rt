@@ -6,5 +6,6 @@ pub mod columns;
 pub mod leaf;
 pub mod leaf_list;
 pub mod leaf_table;
+pub mod leaf_writer;
 pub mod listing;
 pub mod try_it;

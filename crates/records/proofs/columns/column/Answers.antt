@@ -1,4 +1,4 @@
-use Rattle.std.proofs.Common.{◌≡◌, ◌++◌, ◌+◌, ◌-◌, ◌≤◌, take, length, refl, sym, ap, ◌∙◌, arith, rules, replicate}
+use Rattle.std.proofs.Common.{◌≡◌, rules}
 use Rattle.std.specs.Fmt.{signed_decimal}
 use Rattle.records.proofs.Justified.{put_last}
 use Rattle.records.proofs.columns.column.Goals as goal

@@ -1,11 +1,10 @@
-use Rattle.std.proofs.Common.{◌≡◌, ◌≤◌, ◌<◌, ◌++◌, ◌∷◌, [], length, take, drop, get_or, ℕ, ℤ, pos, ◌+◌, ◌-◌, ◌*◌, ◌∙◌, ap, sym, subst, refl, rules, arith, FitsSigned, w32, to_z, of_z}
+use Rattle.std.proofs.Common.{◌≡◌, ◌<◌, ◌++◌, ◌∷◌, [], length, take, drop, get_or, ℤ, pos, ◌+◌, ◌-◌, ◌*◌, ◌∙◌, ap, sym, subst, rules, arith, FitsSigned, w32}
 use Rattle.std.specs.List.{flat_map}
-use Rattle.std.specs.Fmt.{signed_decimal}
 use Rattle.std.proofs.lemmas.Int.{to_z-of_z}
 use Rattle.std.proofs.lemmas.List.{length-drop, drop-drop, append_assoc, take_all}
 use Rattle.records.specs.Lists.{listed, behind}
-use Rattle.records.specs.LeafLines.{column, numbers, leaf_line}
-use Rattle.records.proofs.Lines.{Small, all_small, small_short, length_column, flat_map_step}
+use Rattle.records.specs.LeafLines.{column, numbers}
+use Rattle.records.specs.Lengths.{Small, all_small, small_short, length_column, flat_map_step}
 use Rattle.records.proofs.columns.write_line.Goals as goal
 
 pub column-requires : goal.column-requires

@@ -1,4 +1,4 @@
-use Rattle.std.proofs.Common.{refl, sym, ◌∙◌, ap, rules, ◌-◌, ◌+◌, ◌≡◌, length, drop, arith, ◌≤◌, ◌++◌, take}
+use Rattle.std.proofs.Common.{refl, sym, ◌∙◌, ap, ◌-◌, ◌+◌, ◌≡◌, length, drop, arith, ◌≤◌, ◌++◌, take}
 use Rattle.std.proofs.lemmas.Slice.{take-put_mid, drop-put_mid}
 use Rattle.std.proofs.lemmas.List.{length-drop, drop-drop}
 use Rattle.records.proofs.bounded_list.BoundedList.extend_from_slice.Goals as goal

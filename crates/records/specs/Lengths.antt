@@ -1,5 +1,6 @@
 -- How long columns and lines are.
-use Rattle.std.proofs.Common.{◌≡◌, ℕ, ◌+◌, ◌-◌, ◌*◌, ◌≤◌, ◌<◌, ◌^◌, List, [], ◌∷◌, ◌++◌, take, drop, length, replicate, ℤ, pos, negsuc, ◌≤ℤ◌, All, Option, Some, None, refl, sym, ap, ap₂, mul-zero, mul-suc, ◌∙◌, arith, rules, lit<, lit≤, get_or}
+use Rattle.std.proofs.Common.{◌≡◌, ℕ, suc, ◌+◌, ◌-◌, ◌*◌, ◌≤◌, ◌<◌, List, [], ◌∷◌, ◌++◌, take, length, replicate, ℤ, pos, ◌≤ℤ◌, All, Option, Some, None, refl, sym, ap, ap₂, mul-zero, mul-suc, ◌∙◌, arith, lit≤, get_or}
+use native.Mathlib.Nat.{add_comm}
 use Rattle.std.specs.Option.{ForSome}
 use Rattle.std.specs.Fmt.{signed_decimal}
 use Rattle.std.specs.List.{flat_map}
@@ -72,5 +73,8 @@ pub length_pieces : {X A : Type 0} (f : X → List A) (k : ℕ) (xs : List X) �
 length_pieces f k [] all = sym (mul-zero k)
 length_pieces f k (x ∷ xs) all =
     let one : length (f x) ≡ k = all 0 x (omega arith) in
-    let rest : length (flat_map f xs) ≡ k * length xs = length_pieces f k xs (λ i d l. all (i + 1) d (omega (arith, l))) in
-    length-append (f x) (flat_map f xs) ∙ ap₂ (λ a b. a + b) one rest ∙ sym (mul-suc k (length xs))
+    let rest : length (flat_map f xs) ≡ k * length xs = length_pieces f k xs (λ i d l. all (suc i) d (omega (arith, l))) in
+    length-append (f x) (flat_map f xs) ∙ ap₂ (λ a b. a + b) one rest ∙ add_comm k (k * length xs) ∙ sym (mul-suc k (length xs))
+
+pub length_line : (l : Said) → LeafFits l → length (leaf_line l) ≡ 57
+length_line l f = length-append (flat_map column (numbers l)) (10 ∷ []) ∙ ap (λ k. k + 1) (length_pieces column 8 (numbers l) (λ i d h. length_column (get_or (numbers l) i d) (all_small l f i d h)))
