@@ -6,14 +6,14 @@ use Rattle.token.specs.Tokens.{type_number, index_number}
 use Rattle.records.specs.Leaves.{Said, LeafFits, leaf_number}
 
 -- a number, right-justified in eight columns
-abbrev pub column : ℤ → List ℕ
+unfoldable pub column : ℤ → List ℕ
 column n = replicate (8 - length (signed_decimal n)) 32 ++ signed_decimal n
 
 -- the seven numbers of a line
 abbrev pub numbers : Said → List ℤ
 numbers l = pos (leaf_number l.kind) ∷ pos l.depth ∷ pos l.rule ∷ type_number l.typ ∷ index_number l.index ∷ pos l.line ∷ pos l.column ∷ []
 
-abbrev pub leaf_line : Said → List ℕ
+unfoldable pub leaf_line : Said → List ℕ
 leaf_line l = flat_map column (numbers l) ++ 10 ∷ []
 
 -- The text is the lines of these leaves.

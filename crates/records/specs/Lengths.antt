@@ -26,6 +26,7 @@ pub small_short : (n : ℤ) → Small n → length (signed_decimal n) ≤ 8
 small_short n h = length_signed_le 7 n (omega (arith, h)) (omega (arith, h))
 
 pub length_column : (n : ℤ) → Small n → length (column n) ≡ 8
+unfolding column
 length_column n h =
     let d = signed_decimal n in
     length-append (replicate (8 - length d) 32) d ∙ ap (λ k. k + length d) (length-replicate (8 - length d) 32) ∙ omega (arith, small_short n h)
@@ -77,4 +78,5 @@ length_pieces f k (x ∷ xs) all =
     length-append (f x) (flat_map f xs) ∙ ap₂ (λ a b. a + b) one rest ∙ add_comm k (k * length xs) ∙ sym (mul-suc k (length xs))
 
 pub length_line : (l : Said) → LeafFits l → length (leaf_line l) ≡ 57
+unfolding leaf_line
 length_line l f = length-append (flat_map column (numbers l)) (10 ∷ []) ∙ ap (λ k. k + 1) (length_pieces column 8 (numbers l) (λ i d h. length_column (get_or (numbers l) i d) (all_small l f i d h)))

@@ -4,3 +4,4 @@ pub mod Adding
 pub mod LeafLines
 pub mod Lengths
 pub mod Single
+pub mod Writers

@@ -55,6 +55,7 @@ signed_stays (pos n) h = decimal_stays n (omega (arith, h))
 signed_stays (negsuc n) h = ap (λ ds. 45 ∷ ds) (decimal_stays (suc n) (omega (arith, h)))
 
 digits_of_column : (n : ℤ) → Small n → filter shows (column n) ≡ signed_decimal n
+unfolding column
 digits_of_column n h = filter-append shows (replicate (8 - length (signed_decimal n)) 32) (signed_decimal n) ∙ ap₂ (λ a b. a ++ b) (blanks_gone (8 - length (signed_decimal n))) (signed_stays n h)
 
 column_tells : (m n : ℤ) → Small m → Small n → column m ≡ column n → m ≡ n
@@ -96,6 +97,7 @@ numbers_tell l m e =
     }
 
 line_tells : (l m : Said) → LeafFits l → LeafFits m → leaf_line l ≡ leaf_line m → l ≡ m
+unfolding leaf_line
 line_tells l m p q e = numbers_tell l m (pieces_tell Small column 8 (omega arith) length_column column_tells (numbers l) (numbers m) (all_small l p) (all_small m q) (append_cancel_right (flat_map column (numbers l)) (flat_map column (numbers m)) (10 ∷ []) e))
 
 pub lines_tell : (ls ms : List Said) → All LeafFits ls → All LeafFits ms → flat_map leaf_line ls ≡ flat_map leaf_line ms → ls ≡ ms

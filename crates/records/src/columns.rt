@@ -38,7 +38,7 @@ fn numbers(leaf: Leaf) -> [i32; 7]
 }
 
 // One line more.
-pub(crate) fn write_line(out: &mut BoundedList<u8>, leaf: Leaf)
+fn put_line(out: &mut BoundedList<u8>, leaf: Leaf)
     requires { 57 ≤ length (behind out.old) }
     ensures fits { LeafFits leaf }
     ensures same_memory { out.new.slots.ghost_name ≡ out.old.slots.ghost_name }
@@ -50,4 +50,14 @@ pub(crate) fn write_line(out: &mut BoundedList<u8>, leaf: Leaf)
         let _ = out.extend_from_slice(&column(n));
     }
     let _ = out.push(b'\n');
+}
+
+// A whole line.
+pub(crate) fn write_line(line: &mut [u8], leaf: Leaf)
+    requires { length line.old ≡ 57 }
+    ensures fits { LeafFits leaf }
+    ensures line { line.new ≡ leaf_line leaf }
+{
+    let mut out = BoundedList::new(line);
+    put_line(&mut out, leaf);
 }

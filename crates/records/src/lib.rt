@@ -9,3 +9,4 @@ pub mod leaf_table;
 pub mod leaf_writer;
 pub mod listing;
 pub mod try_it;
+pub mod writing;

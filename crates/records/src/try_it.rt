@@ -1,9 +1,11 @@
-ghost use Rattle.std.specs.Prelude.{◌≡◌, ◌<◌, List, [], ◌∷◌, ◌++◌, drop, length};
+ghost use Rattle.std.specs.Prelude.{◌≡◌, ◌<◌, ◌≤◌, List, [], ◌∷◌, ◌++◌, drop, length};
 ghost use Rattle.records.specs.Adding.{Grown};
+ghost use Rattle.records.specs.LeafLines.{leaf_line};
 use crate::leaf::Leaf;
 use crate::leaf_list::LeafList;
 use crate::bounded_list::BoundedList;
 use crate::leaf_table::LeafTable;
+use crate::leaf_writer::LeafWriter;
 
 pub fn add_two<L: LeafList>(l: &mut L, a: Leaf, b: Leaf)
     ensures same_memory { L.lent l.new ≡ L.lent l.old }
@@ -19,4 +21,12 @@ pub fn fill(table: &mut [Leaf], a: Leaf, b: Leaf)
 {
     let mut t: LeafTable = BoundedList::new(table);
     add_two(&mut t, a, b);
+}
+
+pub fn write_two(table: &mut [u8], a: Leaf, b: Leaf)
+    requires { 114 ≤ length table.old }
+    ensures { table.new ≡ leaf_line a ++ leaf_line b ++ drop 114 table.old }
+{
+    let mut w = LeafWriter::new(table);
+    add_two(&mut w, a, b);
 }
