@@ -5,3 +5,5 @@ pub mod LeafLines
 pub mod Lengths
 pub mod Single
 pub mod Writers
+pub mod Reports
+pub mod Heard

@@ -1,6 +1,12 @@
 ghost use Rattle.std.specs.Prelude.{◌≡◌, ◌<◌, ◌≤◌, List, [], ◌∷◌, ◌++◌, drop, length};
 ghost use Rattle.records.specs.Adding.{Grown};
 ghost use Rattle.records.specs.LeafLines.{leaf_line};
+ghost use Rattle.records.specs.Heard.{hears};
+use crate::report::Report;
+use crate::recorder::Recorder;
+use crate::counter::Counter;
+use crate::listener::Listener;
+use interval_set::set::IntervalSet;
 use crate::leaf::Leaf;
 use crate::leaf_list::LeafList;
 use crate::bounded_list::BoundedList;
@@ -29,4 +35,29 @@ pub fn write_two(table: &mut [u8], a: Leaf, b: Leaf)
 {
     let mut w = LeafWriter::new(table);
     add_two(&mut w, a, b);
+}
+
+pub fn report_two<L: Listener>(l: &mut L, a: Report, b: Report, expected: &IntervalSet)
+    ensures same_memory { L.lent l.new ≡ L.lent l.old }
+    ensures two { L.heard l.new ≡ hears b (hears a (L.heard l.old)) }
+{
+    l.report(a, expected);
+    l.report(b, expected);
+}
+
+pub fn record_two(table: &mut [Report], a: Report, b: Report, expected: &IntervalSet)
+    requires { length table.old ≡ 1 }
+    ensures { table.new ≡ a ∷ [] }
+{
+    let mut list = BoundedList::new(table);
+    let mut r = Recorder::new(&mut list);
+    report_two(&mut r, a, b, expected);
+}
+
+pub fn count_two(a: Report, b: Report, expected: &IntervalSet) -> u32
+    ensures { result ≡ 2 }
+{
+    let mut c = Counter::new();
+    report_two(&mut c, a, b, expected);
+    c.heard()
 }
