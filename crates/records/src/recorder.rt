@@ -1,6 +1,5 @@
 // A recorder of reports.
-ghost use Rattle.std.specs.Prelude.{◌≡◌, [], ◌∷◌, None};
-ghost use Rattle.records.specs.Lists.{listed, behind};
+ghost use Rattle.std.specs.Prelude.{◌≡◌, ◌-◌, ◌≤◌, ◌++◌, [], ◌∷◌, None, length, take, drop};
 
 use crate::bounded_list::BoundedList;
 use crate::counter::Counter;
@@ -9,21 +8,39 @@ use crate::report::Report;
 use interval_set::set::IntervalSet;
 
 // Lists the first reports, while places last, and counts all of them.
+// Holds the memory of its list, and not the list: the lender of memory that is lent on within a field learns nothing of it.
 #[derive(Drop)]
-pub struct Recorder<'l, 'a> {
-    pub(crate) list: &'l mut BoundedList<'a, Report>,
-    pub(crate) counter: Counter,
+pub struct Recorder<'a> {
+    slots: &'a mut [Report],
+    len: usize,
+    counter: Counter,
+    ghost few: { len ≤ length slots.now },
 }
 
-impl<'l, 'a> Recorder<'l, 'a> {
-    pub fn new(list: &'l mut BoundedList<'a, Report>) -> Recorder<'l, 'a>
-        ensures same_list { result.list.ghost_name ≡ list.entry.ghost_name }
-        ensures list { result.list.now ≡ list.old }
+// One report more in the list of the first len places, if there is room. Says how many it has then.
+fn list_report(slots: &mut [Report], len: usize, report: Report) -> usize
+    requires { len ≤ length slots.old }
+    ensures few { result ≤ length slots.new }
+    ensures listed { take result slots.new ≡ take len slots.old ++ take (length slots.old - len) (report ∷ []) }
+    ensures free { drop result slots.new ≡ drop 1 (drop len slots.old) }
+{
+    let mut list = BoundedList { slots, len };
+    // a full list stays as it is
+    let _ = list.push(report);
+    list.len()
+}
+
+impl<'a> Recorder<'a> {
+    pub fn new(slots: &'a mut [Report]) -> Recorder<'a>
+        ensures same_memory { result.slots.ghost_name ≡ slots.entry.ghost_name }
+        ensures untouched { result.slots.now ≡ slots.old }
+        ensures empty { result.len ≡ 0 }
         ensures heard { result.counter.heard ≡ 0 }
         ensures latest { result.counter.latest ≡ None }
     {
         Recorder {
-            list,
+            slots,
+            len: 0,
             counter: Counter::new(),
         }
     }
@@ -42,20 +59,19 @@ impl<'l, 'a> Recorder<'l, 'a> {
 
     // The first reports.
     pub fn reports(&self) -> &[Report]
-        ensures { result.now ≡ listed self.now.list.now }
+        ensures { result.now ≡ take self.now.len self.now.slots.now }
     {
-        self.list.as_slice()
+        &self.slots[..self.len]
     }
 }
 
-impl<'l, 'a> Listener for Recorder<'l, 'a> {
-    ghost heard = { λ r. record { count = r.counter.heard; latest = r.counter.latest; listed = listed r.list.now; free = behind r.list.now } };
+impl<'a> Listener for Recorder<'a> {
+    ghost heard = { λ r. record { count = r.counter.heard; latest = r.counter.latest; listed = take r.len r.slots.now; free = drop r.len r.slots.now } };
 
-    ghost lent = { λ r. r.list.ghost_name ∷ r.list.now.slots.ghost_name ∷ [] };
+    ghost lent = { λ r. r.slots.ghost_name ∷ [] };
 
     fn report(&mut self, report: Report, expected: &IntervalSet) {
         self.counter.report(report, expected);
-        // the list may be full
-        let _ = self.list.push(report);
+        self.len = list_report(self.slots, self.len, report);
     }
 }

@@ -49,8 +49,7 @@ pub fn record_two(table: &mut [Report], a: Report, b: Report, expected: &Interva
     requires { length table.old ≡ 1 }
     ensures { table.new ≡ a ∷ [] }
 {
-    let mut list = BoundedList::new(table);
-    let mut r = Recorder::new(&mut list);
+    let mut r = Recorder::new(table);
     report_two(&mut r, a, b, expected);
 }
 
