@@ -1,6 +1,6 @@
 -- The types among the numbers of a set.
 use lib.Signed.{le_z}
-use Rattle.std.proofs.Common.{◌≡◌, ℕ, zero, suc, ◌+◌, ◌≤◌, ◌<◌, Bool, Fits, w16, subst, true, false, not, cond, ◌&&◌, List, [], ◌∷◌, ℤ, pos, negsuc, ◌+ℤ◌, ◌≤ℤ◌, Some, refl, sym, ap, ◌∙◌, inl, inr, arith}
+use Rattle.std.proofs.Common.{◌≡◌, ℕ, zero, suc, ◌≤◌, ◌<◌, Bool, Fits, w16, subst, true, false, not, ◌&&◌, List, [], ◌∷◌, ℤ, pos, negsuc, ◌+ℤ◌, ◌≤ℤ◌, refl, sym, ap, ◌∙◌, inl, inr, arith}
 use Rattle.std.specs.Int.{FitsUnsignedBits}
 use mathlib.Core.Bool.{and-false}
 use mathlib.Core.Path.{fun_ext}
@@ -9,9 +9,9 @@ use Rattle.std.proofs.lemmas.Bool.{cond-true, cond-false, cases_Bool, or_cases, 
 use Rattle.interval_set.specs.declared.interval.Interval.{Interval}
 use Rattle.interval_set.specs.declared.set.IntervalSet.{IntervalSet}
 use Rattle.interval_set.specs.Intervals.{inside, from_to, has, smallest, largest, rising_from}
-use Rattle.interval_set.specs.Members.{intervals, holds, how_many, Smallest}
+use Rattle.interval_set.specs.Members.{intervals, holds, how_many}
 use Rattle.interval_set.proofs.Rising.{between, not_inside, inside_from, fit, rest, bounded, same_tests}
-use Rattle.token.specs.declared.token_type.TokenType.TheVariants.{Eof, Of}
+use Rattle.token.specs.declared.token_type.TokenType.TheVariants.{Eof}
 use Rattle.records.specs.Reports.{expects, types_in, IsSmallest}
 
 -- the numbers of a set are no greater than the largest
@@ -34,16 +34,16 @@ lowest s x h = bounded smallest (intervals s) x s.rising h
 pub types_left : (s : IntervalSet) (x : ℤ) → (holds s x && not (inside (from_to smallest smallest) x)) ≡ expects s x
 types_left s x = same_tests _ _
     (λ e.
-      let p = and_parts (holds s x) (not (inside (from_to smallest smallest) x)) e in
-      let low = lowest s x p.0 in
-      elim (cases_Bool (inside (from_to smallest smallest) x)) [
-        | inl t ↦ absurd (true≢false (sym p.1 ∙ ap not t))
-        | inr f ↦ and_from (holds s x) _ p.0 (type_from x low (λ e. true≢false (sym (inside_from (from_to smallest smallest) x (omega (arith, ints)) (omega (arith, ints))) ∙ f)))
-      ])
+    let p = and_parts (holds s x) (not (inside (from_to smallest smallest) x)) e in
+    let low = lowest s x p.0 in
+    elim (cases_Bool (inside (from_to smallest smallest) x)) [
+      | inl t ↦ absurd (true≢false (sym p.1 ∙ ap not t))
+      | inr f ↦ and_from (holds s x) _ p.0 (type_from x low (λ e. true≢false (sym (inside_from (from_to smallest smallest) x (omega (arith, ints)) (omega (arith, ints))) ∙ f)))
+    ])
     (λ e.
-      let p = and_parts (holds s x) (le_z (negsuc 0) x) e in
-      let from : negsuc 0 ≤ℤ x = omega (arith, ints, p.1) in
-      and_from (holds s x) _ p.0 (ap not (not_inside (from_to smallest smallest) x (λ b. let h = b.high in omega (arith, ints)))))
+    let p = and_parts (holds s x) (le_z (negsuc 0) x) e in
+    let from : negsuc 0 ≤ℤ x = omega (arith, ints, p.1) in
+    and_from (holds s x) _ p.0 (ap not (not_inside (from_to smallest smallest) x (λ b. let h = b.high in omega (arith, ints)))))
   where
     type_from : (x : ℤ) → smallest ≤ℤ x → (x ≡ smallest → ⊥) → le_z (negsuc 0) x ≡ true
     type_from (pos n) l never = refl

@@ -1,14 +1,14 @@
 -- The leaves of a text as it grows.
-use Rattle.std.proofs.Common.{◌≡◌, ℕ, List, [], ◌∷◌, ◌++◌, All, refl, sym, ap, ◌∙◌}
+use Rattle.std.proofs.Common.{◌≡◌, ℕ, List, [], ◌∷◌, ◌++◌, sym, ap, ◌∙◌}
 use Rattle.std.specs.List.{flat_map}
 use Rattle.std.proofs.lemmas.Grind.{flat_map-append}
-use Rattle.std.proofs.lemmas.List.{append-nil, take-append-drop}
+use Rattle.std.proofs.lemmas.List.{append-nil}
 use Rattle.std.proofs.lemmas.List.Elements.{All-nil, All-push}
 use Rattle.records.specs.declared.leaf_writer.LeafWriter.{LeafWriter}
 use Rattle.records.specs.Leaves.{Said, LeafFits}
 use Rattle.records.specs.LeafLines.{leaf_line, Written}
 use Rattle.records.specs.Single.{lines_tell}
-use Rattle.records.specs.Writers.{text, unwritten, leaves_written}
+use Rattle.records.specs.Writers.{text, leaves_written}
 
 abbrev pub written_more : (old new : List ℕ) (l : Said) → Written old → LeafFits l → new ≡ old ++ leaf_line l → Written new
 written_more old new l w f e = record {

@@ -84,7 +84,7 @@ natural (pos n) = n
 natural (negsuc n) = 0
 
 numbers_tell : (l m : Said) → numbers l ≡ numbers m → l ≡ m
-numbers_tell l m e = 
+numbers_tell l m e =
     let at : (k : ℕ) → get_or (numbers l) k (pos 0) ≡ get_or (numbers m) k (pos 0) = λ k. ap (λ ns. get_or ns k (pos 0)) e in
     λ i. record {
       kind = kind_tells l.kind m.kind (ap mag (at 0)) i;

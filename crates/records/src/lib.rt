@@ -12,5 +12,4 @@ pub mod listener;
 pub mod listing;
 pub mod recorder;
 pub mod report;
-pub mod try_it;
 pub mod writing;

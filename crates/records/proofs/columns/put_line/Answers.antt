@@ -29,10 +29,9 @@ loop-n-preserved c =
     let col : c.column.result ≡ column n = c.column.ensures ∙ ap column (to_z-of_z w32 n fits) in
     let long : length c.column.result ≡ 8 = ap length col ∙ length_column n small in
     let left : length (behind c.loop-n.out) ≡ length (behind c.args.out.now) - 8 * i = ap length c.loop-n.invariant.1 ∙ length-drop (8 * i) (behind c.args.out.now) in
-    let done = c.extend_from_slice.ensures.room (omega (arith, long, left, c.requires, c.loop-n-test.true)) in
-    (
+    let done = c.extend_from_slice.ensures.room (omega (arith, long, left, c.requires, c.loop-n-test.true)) in (
       done.1 ∙ ap (λ xs. xs ++ c.column.result) c.loop-n.invariant.0 ∙ ap (λ xs. (listed c.args.out.now ++ flat_map column (take i items)) ++ xs) col
-      ∙ append_assoc (listed c.args.out.now) (flat_map column (take i items)) (column n) ∙ ap (λ xs. listed c.args.out.now ++ xs) (sym (flat_map_step column items i (pos 0) inside)),
+          ∙ append_assoc (listed c.args.out.now) (flat_map column (take i items)) (column n) ∙ ap (λ xs. listed c.args.out.now ++ xs) (sym (flat_map_step column items i (pos 0) inside)),
       done.2 ∙ ap (λ k. drop k (behind c.loop-n.out)) long ∙ ap (drop 8) c.loop-n.invariant.1 ∙ drop-drop 8 (8 * i) (behind c.args.out.now) ∙ ap (λ k. drop k (behind c.args.out.now)) (omega arith),
       c.extend_from_slice.ensures.same_memory ∙ c.loop-n.invariant.2,
     )

@@ -1,4 +1,4 @@
-use Rattle.std.proofs.Common.{◌≡◌, ◌++◌, ◌∷◌, [], List, ℕ, ◌≤◌, length, drop, rules, arith, ap, ap₂, ◌∙◌}
+use Rattle.std.proofs.Common.{◌≡◌, ◌++◌, [], List, ℕ, ◌≤◌, length, rules, arith, ap, ap₂, ◌∙◌}
 use Rattle.std.proofs.lemmas.List.{append-nil, drop_all}
 use Rattle.records.specs.LeafLines.{leaf_line}
 use Rattle.records.specs.Lists.{listed, behind}

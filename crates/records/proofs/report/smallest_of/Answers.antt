@@ -1,4 +1,4 @@
-use Rattle.std.proofs.Common.{◌≡◌, ℤ, FitsSigned, w32, subst, sym, rules}
+use Rattle.std.proofs.Common.{ℤ, FitsSigned, w32, subst, sym, rules}
 use Rattle.std.specs.Int.{FitsUnsignedBits}
 use Rattle.std.proofs.lemmas.Int.{to_z-of_z}
 use Rattle.records.proofs.Expected.{eof_least}

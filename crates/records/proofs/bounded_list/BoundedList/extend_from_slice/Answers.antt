@@ -12,8 +12,7 @@ returns-clause-room g c = λ h.
     let ys = c.copy_from_slice.new.self in
     let e : length ys ≡ length xs = ap length c.copy_from_slice.ensures.after in
     let m : length (drop l.len s) ≡ length s - l.len = length-drop l.len s in
-    let few : l.len ≤ length s = l.few in
-    (
+    let few : l.len ≤ length s = l.few in (
       refl,
       take-put_mid l.len (n - l.len) s ys n (omega (arith, e)) few ∙ ap (λ zs. take l.len s ++ zs) c.copy_from_slice.ensures.after,
       drop-put_mid l.len (n - l.len) s ys n (omega arith) few (omega (arith, e)) ∙ sym (drop-drop (length xs) l.len s),

@@ -1,7 +1,6 @@
 use mathlib.Core.Path.{fun_ext}
-use Rattle.std.proofs.Common.{◌≡◌, false, subst, ◌∙◌}
+use Rattle.std.proofs.Common.{subst, ◌∙◌}
 use Rattle.interval_set.specs.Intervals.{smallest}
-use Rattle.interval_set.specs.Members.{holds}
 use Rattle.records.specs.Reports.{IsSmallest}
 use Rattle.records.proofs.Expected.{no_epsilon, count_types, few_types, few_fit}
 use Rattle.records.proofs.report.Report.new.Goals as goal

@@ -4,7 +4,7 @@ use Rattle.std.proofs.lemmas.List.{append-nil}
 use Rattle.records.specs.LeafLines.{leaf_line}
 use Rattle.records.specs.Writers.{unwritten, leaves_written}
 use Rattle.records.proofs.Memory.{whole_text}
-use Rattle.records.proofs.try_it.write_two.Goals as goal
+use Rattle.records_tests.proofs.owners.write_two.Goals as goal
 
 pub returns : goal.returns
 returns c =

@@ -1,17 +1,19 @@
-ghost use Rattle.std.specs.Prelude.{◌≡◌, ◌<◌, ◌≤◌, List, [], ◌∷◌, ◌++◌, drop, length};
+// What the owner of a lent table knows once code that is generic has written to it.
+ghost use Rattle.std.specs.Prelude.{◌≡◌, ◌<◌, ◌≤◌, [], ◌∷◌, ◌++◌, drop, length};
 ghost use Rattle.records.specs.Adding.{Grown};
 ghost use Rattle.records.specs.LeafLines.{leaf_line};
 ghost use Rattle.records.specs.Heard.{hears};
-use crate::report::Report;
-use crate::recorder::Recorder;
-use crate::counter::Counter;
-use crate::listener::Listener;
+
 use interval_set::set::IntervalSet;
-use crate::leaf::Leaf;
-use crate::leaf_list::LeafList;
-use crate::bounded_list::BoundedList;
-use crate::leaf_table::LeafTable;
-use crate::leaf_writer::LeafWriter;
+use records::bounded_list::BoundedList;
+use records::counter::Counter;
+use records::leaf::Leaf;
+use records::leaf_list::LeafList;
+use records::leaf_table::LeafTable;
+use records::leaf_writer::LeafWriter;
+use records::listener::Listener;
+use records::recorder::Recorder;
+use records::report::Report;
 
 pub fn add_two<L: LeafList>(l: &mut L, a: Leaf, b: Leaf)
     ensures same_memory { L.lent l.new ≡ L.lent l.old }
