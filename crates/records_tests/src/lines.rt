@@ -11,6 +11,13 @@ const FIRST: &[u8] = b"       1       1       0      -1      -1       0       0\
 
 const LAST: &[u8] = b"       2      64      63     255   65534 1000000 1000000\n";
 
+// The two lines, and dots behind them.
+fn is_written(memory: &[u8]) -> bool {
+    let lines = FIRST.iter().chain(LAST.iter());
+    memory.iter().zip(lines).all(|(got, want)| got == want)
+        && memory.iter().skip(114).all(|b| *b == b'.')
+}
+
 #[test]
 fn two_lines_and_what_lies_behind_them(rt: HostRuntime) -> Result<(), Fail> {
     let made_up = Leaf::new(LeafKind::Terminal, 1, 0, TokenType::Eof, None, (0, 0));
@@ -30,8 +37,6 @@ fn two_lines_and_what_lies_behind_them(rt: HostRuntime) -> Result<(), Fail> {
     assert_eq!(rt; LeafList::free(&w), 0);
     assert_eq!(rt; w.add(made_up), Err(Denial::NoLeafFree));
     assert_eq!(rt; w.as_bytes().len(), 114);
-    assert!(rt; memory[..57] == *FIRST);
-    assert!(rt; memory[57..114] == *LAST);
-    assert!(rt; memory[114..].iter().all(|b| *b == b'.'));
+    assert!(rt; is_written(&memory));
     Ok(())
 }

@@ -15,5 +15,5 @@ returns c =
     let rest : unwritten w ≡ drop 114 c.args.table.now = two.untouched ∙ ap (drop 114) c.new-w.ensures.untouched in
     let whole : w.memory.now ≡ leaf_line c.args.a ++ (leaf_line c.args.b ++ []) ++ drop 114 c.args.table.now = whole_text w ∙ ap₂ (λ ls t. flat_map leaf_line ls ++ t) lines rest in
     let ends : (t : List ℕ) → t ≡ w.memory.now → t ≡ leaf_line c.args.a ++ leaf_line c.args.b ++ drop 114 c.args.table.now =
-      λ t e. e ∙ whole ∙ ap (λ l. leaf_line c.args.a ++ l ++ drop 114 c.args.table.now) (append-nil (leaf_line c.args.b)) in
+    λ t e. e ∙ whole ∙ ap (λ l. leaf_line c.args.a ++ l ++ drop 114 c.args.table.now) (append-nil (leaf_line c.args.b)) in
     ends _ (search rules)
