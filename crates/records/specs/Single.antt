@@ -83,7 +83,7 @@ natural : ℤ → ℕ
 natural (pos n) = n
 natural (negsuc n) = 0
 
-numbers_tell : (l m : Said) → numbers l ≡ numbers m → l ≡ m
+pub numbers_tell : (l m : Said) → numbers l ≡ numbers m → l ≡ m
 numbers_tell l m e =
     let at : (k : ℕ) → get_or (numbers l) k (pos 0) ≡ get_or (numbers m) k (pos 0) = λ k. ap (λ ns. get_or ns k (pos 0)) e in
     λ i. record {

@@ -2,7 +2,7 @@
 use Rattle.std.specs.Prelude.{◌≡◌, ◌⊎◌, ℕ, ◌+◌, ◌<◌, true, false, cond, List, [], ◌∷◌, ◌++◌, length, All, ℤ, pos, Some, None, codes, fold, Option, ◌==◌, slice_index, slice_index_or}
 use Rattle.std.specs.Char.{is_ascii_whitespace}
 use Rattle.script.specs.declared.directive.Directive.{Directive}
-use Rattle.script.specs.declared.directive.Directive.TheVariants.{Net, Counts, Rule, State, Edge, Interval, Word, Lane, Summary}
+use Rattle.script.specs.declared.directive.Directive.TheVariants.{Net, Counts, Rule, State, Edge, Interval, Word, Lane, Leaves, Summary}
 use Rattle.script.specs.declared.token_row.TokenRow.{TokenRow}
 use Rattle.script.specs.declared.error.Fault.{Fault}
 use Rattle.script.specs.declared.error.Fault.TheVariants.{UnknownWord, WrongForm, FullTable, OtherKind, NoNet, Memory, WrongQuestion, TooLate}
@@ -50,6 +50,7 @@ spelling keyword.Edge = codes "edge"
 spelling keyword.Interval = codes "interval"
 spelling keyword.Word = codes "word"
 spelling keyword.Lane = codes "lane"
+spelling keyword.Leaves = codes "leaves"
 spelling keyword.Summary = codes "summary"
 
 -- how many numbers follow the word
@@ -62,6 +63,7 @@ numbers_after keyword.Edge = 4
 numbers_after keyword.Interval = 2
 numbers_after keyword.Word = 6
 numbers_after keyword.Lane = 4
+numbers_after keyword.Leaves = 1
 numbers_after keyword.Summary = 0
 
 -- the word is the keyword's, or no keyword's
@@ -78,6 +80,7 @@ keyword_of (Edge e) = keyword.Edge
 keyword_of (Interval i) = keyword.Interval
 keyword_of (Word w) = keyword.Word
 keyword_of (Lane l) = keyword.Lane
+keyword_of (Leaves n) = keyword.Leaves
 keyword_of Summary = keyword.Summary
 
 -- the line begins with a word that is no keyword
@@ -102,6 +105,7 @@ Holds ns (Edge e) = (e.kind ≡ number ns 0) × (e.target ≡ number ns 1) × (e
 Holds ns (Interval i) = (i.a ≡ number ns 0) × (i.b ≡ number ns 1)
 Holds ns (Word w) = HoldsToken ns w × (w.span.start ≡ number ns 4) × (w.span.stop ≡ number ns 5)
 Holds ns (Lane l) = HoldsToken ns l
+Holds ns (Leaves n) = n ≡ number ns 0
 Holds ns Summary = Unit {0}
 
 -- The keyword's directive with these numbers; none where their number is wrong.

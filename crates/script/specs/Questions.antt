@@ -3,11 +3,13 @@ use Rattle.std.specs.Prelude.{◌≡◌, ◌≢◌, ℕ, ◌-◌, ◌^◌, ◌<�
 use Rattle.script.specs.declared.question.AskWord.{AskWord}
 use Rattle.script.specs.declared.question.AskWord.TheVariants as word
 use Rattle.script.specs.declared.question.Ask.{Ask}
-use Rattle.script.specs.declared.question.Ask.TheVariants.{Within, InContext, Expected, Recovery, Tokens}
+use Rattle.script.specs.declared.question.Ask.TheVariants.{Within, InContext, Expected, Recovery, Tokens, Leaf}
 use Rattle.script.specs.declared.script_line.LookaheadKind.{LookaheadKind}
 use Rattle.script.specs.declared.script_line.LookaheadKind.TheVariants.{Walker, Table, Cache}
 use Rattle.script.specs.declared.script_line.Show.{Show}
 use Rattle.script.specs.declared.script_line.Show.TheVariants.{All, Channel0}
+use Rattle.records.specs.Leaves.{LeafFits}
+use Rattle.records.specs.LeafLines.{numbers}
 use Rattle.script.specs.Words.{IsSpelt}
 
 -- the word as it is written
@@ -19,6 +21,7 @@ ask_spelling word.InContext = codes "in-context"
 ask_spelling word.Expected = codes "expected"
 ask_spelling word.Recovery = codes "recovery"
 ask_spelling word.Tokens = codes "tokens"
+ask_spelling word.Leaf = codes "leaf"
 
 -- the word is the one so spelt, or none of them
 abbrev pub AskSpelt : List ℕ → Option AskWord → Type 0
@@ -43,27 +46,25 @@ state_number (negsuc n) = 2 ^ 64 - 1
 abbrev pub state_numbers : List ℤ → List ℕ
 state_numbers ns = map state_number ns
 
--- the word that a question begins with, and the states that it names, in their order
+-- the word that a question begins with
 abbrev pub ask_word : Ask → AskWord
 ask_word (Within s) = word.Within
 ask_word (InContext s chain) = word.InContext
 ask_word (Expected s chain) = word.Expected
 ask_word (Recovery chain) = word.Recovery
 ask_word Tokens = word.Tokens
+ask_word (Leaf l) = word.Leaf
 
-abbrev pub ask_states : Ask → List ℕ
-ask_states (Within s) = s ∷ []
-ask_states (InContext s chain) = s ∷ chain.items
-ask_states (Expected s chain) = s ∷ chain.items
-ask_states (Recovery chain) = chain.items
-ask_states Tokens = []
-
--- a question about a set has one number or more, one for the tokens none
-abbrev pub NumbersFit : AskWord → List ℤ → Type 0
-NumbersFit word.Tokens ns = ns ≡ []
-NumbersFit k ns = 0 < length ns
+-- The question is written with these numbers.
+abbrev pub IsAskedWith : Ask → List ℤ → Type 0
+IsAskedWith (Within s) ns = s ∷ [] ≡ state_numbers ns
+IsAskedWith (InContext s chain) ns = s ∷ chain.items ≡ state_numbers ns
+IsAskedWith (Expected s chain) ns = s ∷ chain.items ≡ state_numbers ns
+IsAskedWith (Recovery chain) ns = (0 < length ns) × (chain.items ≡ state_numbers ns)
+IsAskedWith Tokens ns = ns ≡ []
+IsAskedWith (Leaf l) ns = LeafFits l × (numbers l ≡ ns)
 
 -- The word's question with these numbers; none where no question is so written.
 abbrev pub Forms : AskWord → List ℤ → Option Ask → Type 0
-Forms k ns (Some a) = NumbersFit k ns × (ask_word a ≡ k) × (ask_states a ≡ state_numbers ns)
-Forms k ns None = NumbersFit k ns → (a : Ask) → ask_word a ≡ k → ask_states a ≢ state_numbers ns
+Forms k ns (Some a) = (ask_word a ≡ k) × IsAskedWith a ns
+Forms k ns None = (a : Ask) → ask_word a ≡ k → IsAskedWith a ns → ⊥

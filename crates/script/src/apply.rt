@@ -25,6 +25,7 @@ impl Script {
             Directive::Word(row) => self.words.push(row)?,
             Directive::Lane(_) if !self.words.is_empty() => return Err(Fault::OtherKind),
             Directive::Lane(row) => self.lanes.push(row)?,
+            Directive::Leaves(n) => self.leaves = Some(n),
             Directive::Summary => self.summary = true,
         }
         Ok(())

@@ -16,6 +16,8 @@ pub enum Directive {
     // a token of the tape
     Word(WordRow),
     Lane(LaneRow),
+    // how many leaves there is room for
+    Leaves(i32),
     // a summary of an accepted net is wanted
     Summary,
 }

@@ -57,7 +57,7 @@ impl fmt::Display for Fault {
             Fault::UnknownWord => {
                 write!(
                     f,
-                    "expected net, counts, rule, state, edge, interval, word, lane or summary"
+                    "expected net, counts, rule, state, edge, interval, word, lane, leaves or summary"
                 )
             }
             Fault::WrongForm(keyword) => write!(f, "expected {keyword}"),

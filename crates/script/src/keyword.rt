@@ -17,6 +17,7 @@ pub enum Keyword {
     Interval,
     Word,
     Lane,
+    Leaves,
     Summary,
 }
 
@@ -35,6 +36,7 @@ impl FromStr for Keyword {
             "interval" => Ok(Keyword::Interval),
             "word" => Ok(Keyword::Word),
             "lane" => Ok(Keyword::Lane),
+            "leaves" => Ok(Keyword::Leaves),
             "summary" => Ok(Keyword::Summary),
             _ => Err(Fault::UnknownWord),
         }
@@ -53,6 +55,7 @@ impl fmt::Display for Keyword {
             Keyword::Interval => "interval LOW HIGH, two numbers",
             Keyword::Word => "word TYPE CHANNEL LINE COLUMN START STOP, six numbers",
             Keyword::Lane => "lane TYPE CHANNEL LINE COLUMN, four numbers",
+            Keyword::Leaves => "leaves N, one number",
             Keyword::Summary => "summary, no number",
         })
     }

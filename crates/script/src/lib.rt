@@ -7,6 +7,7 @@ pub mod apply;
 pub mod directive;
 pub mod error;
 pub mod keyword;
+pub mod leaf_row;
 pub mod line;
 pub mod number;
 pub mod parse;

@@ -54,6 +54,7 @@ impl Directive {
                     span: (),
                 }))
             }
+            (Keyword::Leaves, &[n]) => Some(Directive::Leaves(n)),
             (Keyword::Summary, &[]) => Some(Directive::Summary),
             _ => None,
         }

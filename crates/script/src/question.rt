@@ -4,6 +4,8 @@ ghost use Rattle.script.specs.Words.{IsRead};
 ghost use Rattle.script.specs.declared.error.Fault.TheVariants.{UnknownWord};
 
 use crate::error::Fault;
+use crate::leaf_row::leaf_of;
+use records::leaf::Leaf;
 use std::alloc::{AllocError, Global};
 use std::fmt;
 use std::str::FromStr;
@@ -19,6 +21,7 @@ pub enum AskWord {
     Expected,
     Recovery,
     Tokens,
+    Leaf,
 }
 
 impl FromStr for AskWord {
@@ -35,6 +38,7 @@ impl FromStr for AskWord {
             "expected" => Ok(AskWord::Expected),
             "recovery" => Ok(AskWord::Recovery),
             "tokens" => Ok(AskWord::Tokens),
+            "leaf" => Ok(AskWord::Leaf),
             _ => Err(Fault::UnknownWord),
         }
     }
@@ -51,12 +55,15 @@ impl fmt::Display for AskWord {
             AskWord::Expected => "expected S C.., one number or more",
             AskWord::Recovery => "recovery C.., one number or more",
             AskWord::Tokens => "tokens, no number",
+            AskWord::Leaf => {
+                "leaf KIND DEPTH RULE TYPE INDEX LINE COLUMN, seven numbers within their limits"
+            }
         })
     }
 }
 
 // What is asked: a set of the net, by the state that it is of and the invoking states of the open rules,
-// innermost first; or which tokens are shown.
+// innermost first; which tokens are shown; or that a leaf be added.
 #[derive(Drop)]
 pub enum Ask {
     Within { state: usize },
@@ -64,6 +71,7 @@ pub enum Ask {
     Expected { state: usize, chain: Vec<usize> },
     Recovery { chain: Vec<usize> },
     Tokens,
+    Leaf(Leaf),
 }
 
 // A question as it stands in the script, its words with single blanks, and what it asks.
@@ -109,6 +117,7 @@ impl Ask {
                 chain: rest.to_vec(heap)?,
             }),
             AskWord::Recovery => Some(Ask::Recovery { chain: states }),
+            AskWord::Leaf => leaf_of(numbers).map(Ask::Leaf),
             _ => None,
         };
         Ok(ask)

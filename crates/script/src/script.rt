@@ -9,7 +9,8 @@ use interval_set::interval::Interval;
 pub const MAX_ROWS: usize = 1_000_000;
 
 // What the lines read so far say. An option is None until its line stands; the walker is the lookahead
-// until another is named, and all tokens are shown until another choice stands.
+// until another is named, all tokens are shown until another choice stands, and there is room for 1,000
+// leaves until another number stands.
 #[derive(Drop)]
 pub struct Script {
     pub(crate) max: Option<i32>,
@@ -20,6 +21,7 @@ pub struct Script {
     pub(crate) intervals: Rows<Interval>,
     pub(crate) words: Rows<WordRow>,
     pub(crate) lanes: Rows<LaneRow>,
+    pub(crate) leaves: Option<i32>,
     pub(crate) summary: bool,
     pub(crate) lookahead: LookaheadKind,
     pub(crate) show: Show,

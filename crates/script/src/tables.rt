@@ -1,10 +1,10 @@
 ghost use Rattle.std.specs.Prelude.{◌≡◌, None, MatchOption};
 ghost use Rattle.script.specs.Asking.{asking, nothing_asked};
-ghost use Rattle.script.specs.Contents.{content, nothing_said, row_counts, ItsTables};
+ghost use Rattle.script.specs.Contents.{content, nothing_said, leaf_places, row_counts, ItsTables};
 
 use crate::question::Question;
 use crate::rows::Rows;
-use crate::script::Script;
+use crate::script::{MAX_ROWS, Script};
 use crate::script_line::{LookaheadKind, Show};
 use crate::token_row::{LaneRow, WordRow};
 use atn_graph::tables::{Counts, Tables};
@@ -25,6 +25,7 @@ impl Script {
             intervals: Rows::new(heap),
             words: Rows::new(heap),
             lanes: Rows::new(heap),
+            leaves: None,
             summary: false,
             lookahead: LookaheadKind::Walker,
             show: Show::All,
@@ -63,6 +64,14 @@ impl Script {
         ensures { result.now ≡ (content self.now).lanes }
     {
         self.lanes.as_slice()
+    }
+
+    // How many leaves there is room for: 1,000 unless the script says another number, and 0 to 1,000,000.
+    pub fn leaf_places(&self) -> usize
+        ensures { result ≡ leaf_places (content self.now) }
+    {
+        let places = self.leaves.unwrap_or(1000);
+        usize::try_from(places).unwrap_or(0).min(MAX_ROWS)
     }
 
     pub fn questions(&self) -> &[Question]

@@ -21,7 +21,7 @@ pub type WordRow = TokenRow<Span>;
 pub type LaneRow = TokenRow<()>;
 
 // The type with that number.
-fn token_type(n: i32) -> Option<TokenType>
+pub(crate) fn token_type(n: i32) -> Option<TokenType>
     ensures { MatchOption result ((t : TokenType) → TypeFits t → type_number t ≡ n → ⊥) (λ t. TypeFits t × (type_number t ≡ n)) }
 {
     match n {
