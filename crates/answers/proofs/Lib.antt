@@ -1,3 +1,5 @@
+pub mod EachMore
+pub mod LastLine
 pub mod Listed
 pub mod Verdict
 pub mod Written

@@ -1,6 +1,5 @@
 -- What the questions of a script are answered.
-use Rattle.std.specs.Prelude.{◌≡◌, List, Result}
-use Rattle.std.specs.List.{AllZip}
+use Rattle.std.specs.Prelude.{◌≡◌, ℕ, ◌-◌, List, [], ◌∷◌, Result}
 use Rattle.errors.specs.declared.denial.Denial.{Denial}
 use Rattle.interval_set.specs.declared.set.IntervalSet.{IntervalSet}
 use Rattle.atn_graph.specs.Net.{Net}
@@ -8,11 +7,12 @@ use Rattle.ll1_analyzer.specs.Answers.{Answers}
 use Rattle.ll1_analyzer.specs.Chains.{follow_states, StateFault, ChainFault, Fault}
 use Rattle.ll1_analyzer.specs.Sets.{Within as WithinRule, InContext as InContextSet, Expected as ExpectedSet, Recovery as RecoverySet}
 use Rattle.script.specs.declared.question.Ask.{Ask}
-use Rattle.script.specs.declared.question.Ask.TheVariants.{Within, InContext, Expected, Recovery, Tokens}
+use Rattle.script.specs.declared.question.Ask.TheVariants.{Within, InContext, Expected, Recovery, Tokens, Leaf}
 use Rattle.script.specs.declared.question.Question.{Question}
 use Rattle.answers.specs.declared.asking.Reply.{Reply}
-use Rattle.answers.specs.declared.asking.Reply.TheVariants.{Set, Tokens as TokenList}
+use Rattle.answers.specs.declared.asking.Reply.TheVariants.{Set, Tokens as TokenList, Leaf as LeafReply}
 use Rattle.answers.specs.declared.shown.ShownToken.{ShownToken}
+use Rattle.answers.specs.Leaves.{LeafAnswer}
 
 -- the set that is asked for, or why it is denied
 abbrev pub SetAnswer : Net → Ask → Result IntervalSet Denial → Type 0
@@ -21,13 +21,28 @@ SetAnswer n (InContext s chain) = Answers (Fault n s chain.items) (InContextSet 
 SetAnswer n (Expected s chain) = Answers (Fault n s chain.items) (ExpectedSet n s (follow_states n chain.items))
 SetAnswer n (Recovery chain) = Answers (ChainFault n chain.items) (RecoverySet n (follow_states n chain.items))
 SetAnswer n Tokens = λ r. ⊥
+SetAnswer n (Leaf l) = λ r. ⊥
 
--- a question about the net is answered by its set, one for the tokens by those that are shown
-abbrev pub Answer : Net → List ShownToken → Ask → Reply → Type 0
-Answer n shown a (Set r) = SetAnswer n a r
-Answer n shown Tokens (TokenList v) = v.items ≡ shown
-Answer n shown a (TokenList v) = ⊥
+-- A question about the net is answered by its set, one for the tokens by those that are shown, a leaf by what the leaf
+-- lists do with it.
+abbrev pub Answer : Net → List ShownToken → ℕ → Ask → Reply → Type 0
+Answer n shown room a (Set r) = SetAnswer n a r
+Answer n shown room Tokens (TokenList v) = v.items ≡ shown
+Answer n shown room a (TokenList v) = ⊥
+Answer n shown room (Leaf l) (LeafReply r) = LeafAnswer room l r
+Answer n shown room a (LeafReply r) = ⊥
 
--- one answer for each question, in their order
-abbrev pub EachAnswered : Net → List ShownToken → List Question → List Reply → Type 0
-EachAnswered n shown = AllZip (λ q r. Answer n shown q.ask r)
+-- how many leaves there is room for after a question, and after several
+abbrev pub room_after : Ask → ℕ → ℕ
+room_after (Leaf l) room = room - 1
+room_after a room = room
+
+abbrev pub room_left : List Question → ℕ → ℕ
+room_left [] room = room
+room_left (q ∷ qs) room = room_left qs (room_after q.ask room)
+
+-- one answer for each question, in their order, where so many leaves have room
+abbrev pub EachAnswered : Net → List ShownToken → ℕ → List Question → List Reply → Type 0
+EachAnswered n shown room [] [] = Unit {0}
+EachAnswered n shown room (q ∷ qs) (r ∷ rs) = Answer n shown room q.ask r × EachAnswered n shown (room_after q.ask room) qs rs
+EachAnswered n shown room qs rs = ⊥

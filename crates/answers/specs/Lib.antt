@@ -1,3 +1,4 @@
 pub mod Asking
 pub mod Tapes
+pub mod Leaves
 pub mod Answers

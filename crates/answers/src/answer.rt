@@ -1,16 +1,19 @@
 ghost use Rattle.std.specs.Prelude.{IfOk};
 ghost use Rattle.atn.specs.Checked.{net_of};
-ghost use Rattle.answers.specs.Answers.{AllAnswered, Replied, RestAnswered};
+ghost use Rattle.answers.specs.Answers.{AllAnswered, AllReplied, Replied, RestAnswered};
 ghost use Rattle.script.specs.Answers.{checked_net};
 ghost use Rattle.script.specs.Asking.{asking};
-ghost use Rattle.script.specs.Contents.{content};
+ghost use Rattle.script.specs.Contents.{content, leaf_places};
 
 use crate::asking::{Reply, answer_all};
+use crate::leaf_lists::LeafLists;
+use crate::leaves::{AddedLeaf, LINE, no_leaf};
 use crate::shown::ShownToken;
 use crate::tape::answer_tape;
 use atn::atn::Atn;
 use errors::denial::Denial;
 use interval_set::set::IntervalSet;
+use records::counter::Counter;
 use script::answer::Answer;
 use script::question::Question;
 use script::script::Script;
@@ -26,7 +29,16 @@ pub struct ScriptAnswer<'a> {
     tape: Option<Result<Vec<ShownToken>, Denial>>,
     // kept beside the replies, as a part of the script: there is one for each question, or none at all
     questions: &'a [Question],
-    replies: Vec<Reply>,
+    replies: Option<Replies>,
+}
+
+// What the questions are answered, and then how many leaves were added, and how many more there is room
+// for.
+#[derive(Drop)]
+pub struct Replies {
+    pub replies: Vec<Reply>,
+    pub added: usize,
+    pub free: usize,
 }
 
 impl<'a> ScriptAnswer<'a> {
@@ -52,11 +64,11 @@ fn answer_rest(
     heap: Global,
     script: &Script,
     about_net: &Answer,
-) -> Result<(Option<Result<Vec<ShownToken>, Denial>>, Vec<Reply>), AllocError>
-    ensures { IfOk result (λ p. RestAnswered (content script.now) (asking script.now) (checked_net about_net.now) p.0 p.1.items) }
+) -> Result<(Option<Result<Vec<ShownToken>, Denial>>, Option<Replies>), AllocError>
+    ensures { IfOk result (λ p. RestAnswered (content script.now) (asking script.now) (checked_net about_net.now) p.0 p.1) }
 {
     let Some(atn) = about_net.net() else {
-        return Ok((None, Vec::new(heap)));
+        return Ok((None, None));
     };
     let tape = answer_tape(heap, script)?;
     let replies = answer_questions(heap, atn, script, &tape)?;
@@ -69,15 +81,45 @@ fn answer_questions(
     atn: &Atn,
     script: &Script,
     tape: &Option<Result<Vec<ShownToken>, Denial>>,
-) -> Result<Vec<Reply>, AllocError>
-    ensures { IfOk result (λ v. Replied (net_of atn.now) tape.now (asking script.now).questions v.items) }
+) -> Result<Option<Replies>, AllocError>
+    ensures { IfOk result (Replied (net_of atn.now) tape.now (leaf_places (content script.now)) (asking script.now).questions) }
 {
     let shown: &[ShownToken] = match tape {
         Some(Ok(tokens)) => tokens.as_slice(),
-        Some(Err(_)) => return Ok(Vec::new(heap)),
+        Some(Err(_)) => return Ok(None),
         None => &[],
     };
-    answer_all(heap, atn, script.lookahead(), shown, script.questions())
+    Ok(Some(answer_where(heap, atn, script, shown)?))
+}
+
+// What the questions are answered where that is shown, with leaf lists that have the room that the script
+// says.
+fn answer_where(
+    heap: Global,
+    atn: &Atn,
+    script: &Script,
+    shown: &[ShownToken],
+) -> Result<Replies, AllocError>
+    ensures { IfOk result (AllReplied (net_of atn.now) shown.now (leaf_places (content script.now)) (asking script.now).questions) }
+{
+    let places = script.leaf_places();
+    let mut leaves = vec![in heap; no_leaf(); places]?;
+    let mut text = vec![in heap; 0u8; places * LINE]?;
+    let mut lists = LeafLists::new(leaves.as_mut_slice(), text.as_mut_slice());
+    let replies = answer_all(
+        heap,
+        atn,
+        script.lookahead(),
+        &mut lists,
+        shown,
+        script.questions(),
+    )?;
+    let free = lists.free();
+    Ok(Replies {
+        replies,
+        added: places.saturating_sub(free),
+        free,
+    })
 }
 
 // The intervals of a set, a single number as such, with blanks between.
@@ -105,6 +147,21 @@ fn write_tokens<W: fmt::Write>(tokens: &[ShownToken], f: &mut fmt::Formatter<W>)
     Ok(())
 }
 
+// The leaf as the table has it, and its line as the writer has it.
+fn write_leaf<W: fmt::Write>(added: &AddedLeaf, f: &mut fmt::Formatter<W>) -> fmt::Result {
+    let leaf = added.leaf;
+    let (line, column) = leaf.position();
+    let index = leaf.index().map_or(-1, i32::from);
+    writeln!(f, " done")?;
+    write!(f, "  leaf {} {} ", leaf.kind().number(), leaf.depth())?;
+    write!(f, "{} {} ", leaf.rule(), i32::from(leaf.token_type()))?;
+    writeln!(f, "{index} {line} {column}")?;
+    for byte in &added.line {
+        write!(f, "{}", char::from(*byte))?;
+    }
+    Ok(())
+}
+
 fn write_reply<W: fmt::Write>(
     question: &Question,
     reply: &Reply,
@@ -115,6 +172,8 @@ fn write_reply<W: fmt::Write>(
         Reply::Set(Ok(set)) => write_set(set, f)?,
         Reply::Set(Err(denial)) => write!(f, " denied {}", denial.number())?,
         Reply::Tokens(tokens) => write_tokens(tokens.as_slice(), f)?,
+        Reply::Leaf(Ok(added)) => return write_leaf(added, f),
+        Reply::Leaf(Err(denial)) => write!(f, " denied {}", denial.number())?,
     }
     writeln!(f)
 }
@@ -127,9 +186,16 @@ impl fmt::Display for ScriptAnswer<'_> {
             Some(Ok(_)) => writeln!(f, "tape ok")?,
             Some(Err(denial)) => writeln!(f, "tape denied {}", denial.number())?,
         }
-        for (question, reply) in self.questions.iter().zip(&self.replies) {
+        let Some(replies) = &self.replies else {
+            return Ok(());
+        };
+        for (question, reply) in self.questions.iter().zip(&replies.replies) {
             write_reply(question, reply, f)?;
         }
-        Ok(())
+        if self.tape.is_none() {
+            return Ok(());
+        }
+        writeln!(f, "leaves {} added {} free", replies.added, replies.free)?;
+        writeln!(f, "reports {}", Counter::new().heard())
     }
 }

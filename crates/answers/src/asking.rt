@@ -1,9 +1,12 @@
 // Questions about a net, over any lookahead, and about what is shown of a tape.
-ghost use Rattle.std.specs.Prelude.{IfOk};
+ghost use Rattle.std.specs.Prelude.{◌≡◌, IfOk, OnOk};
 ghost use Rattle.atn.specs.Checked.{net_of};
 ghost use Rattle.ll1_analyzer.specs.Answers.{Keeps};
-ghost use Rattle.answers.specs.Asking.{Answer, EachAnswered};
+ghost use Rattle.answers.specs.Asking.{Answer, EachAnswered, room_after, room_left};
+ghost use Rattle.answers.specs.Leaves.{room};
 
+use crate::leaf_lists::LeafLists;
+use crate::leaves::AddedLeaf;
 use crate::shown::ShownToken;
 use atn::atn::Atn;
 use errors::denial::Denial;
@@ -19,21 +22,25 @@ use script::question::{Ask, Question};
 use script::script_line::LookaheadKind;
 use std::alloc::{AllocError, Global};
 
-// What a question is answered: a set of the net or why it is denied, or the tokens that are shown.
+// What a question is answered: a set of the net or why it is denied, the tokens that are shown, or a leaf
+// that was added or why it was not.
 #[derive(Drop)]
 pub enum Reply {
     Set(Result<IntervalSet, Denial>),
     Tokens(Vec<ShownToken>),
+    Leaf(Result<AddedLeaf, Denial>),
 }
 
 fn answer_one<L: Lookahead>(
     heap: Global,
     l: &mut L,
+    lists: &mut LeafLists<'_>,
     shown: &[ShownToken],
     ask: &Ask,
 ) -> Result<Reply, AllocError>
     ensures keeps { Keeps L.atn L.agrees l.old l.new }
-    ensures answers { L.agrees l.old → IfOk result (Answer (net_of (L.atn l.old)) shown.now ask.now) }
+    ensures answers { L.agrees l.old → IfOk result (Answer (net_of (L.atn l.old)) shown.now (room lists.old) ask.now) }
+    ensures room { OnOk result (room lists.new ≡ room_after ask.now (room lists.old)) }
 {
     match ask {
         Ask::Within { state } => Ok(Reply::Set(next_tokens(l, *state))),
@@ -45,48 +52,53 @@ fn answer_one<L: Lookahead>(
         }
         Ask::Recovery { chain } => Ok(Reply::Set(get_error_recovery_set(l, chain.as_slice()))),
         Ask::Tokens => Ok(Reply::Tokens(shown.to_vec(heap)?)),
+        Ask::Leaf(leaf) => Ok(Reply::Leaf(lists.add(heap, *leaf)?)),
     }
 }
 
 fn answer_each<L: Lookahead>(
     heap: Global,
     l: &mut L,
+    lists: &mut LeafLists<'_>,
     shown: &[ShownToken],
     questions: &[Question],
 ) -> Result<Vec<Reply>, AllocError>
-    ensures { L.agrees l.old → IfOk result (λ v. EachAnswered (net_of (L.atn l.old)) shown.now questions.now v.items) }
+    ensures answered { L.agrees l.old → IfOk result (λ v. EachAnswered (net_of (L.atn l.old)) shown.now (room lists.old) questions.now v.items) }
+    ensures room { OnOk result (room lists.new ≡ room_left questions.now (room lists.old)) }
 {
     let mut answers = Vec::new(heap);
     // kept as a loop: an answer may alter the lookahead, which no closure of a proved chain may
     for question in questions {
-        answers.push(answer_one(heap, l, shown, &question.ask)?)?;
+        answers.push(answer_one(heap, l, lists, shown, &question.ask)?)?;
     }
     Ok(answers)
 }
 
-// What the questions are answered, by the lookahead of that kind where `shown` is shown. All kinds answer
-// alike.
+// What the questions are answered, by the lookahead of that kind and with these leaf lists, where `shown`
+// is shown. All kinds answer alike.
 pub fn answer_all(
     heap: Global,
     atn: &Atn,
     kind: LookaheadKind,
+    lists: &mut LeafLists<'_>,
     shown: &[ShownToken],
     questions: &[Question],
 ) -> Result<Vec<Reply>, AllocError>
-    ensures { IfOk result (λ v. EachAnswered (net_of atn.now) shown.now questions.now v.items) }
+    ensures answered { IfOk result (λ v. EachAnswered (net_of atn.now) shown.now (room lists.old) questions.now v.items) }
+    ensures room { OnOk result (room lists.new ≡ room_left questions.now (room lists.old)) }
 {
     match kind {
         LookaheadKind::Walker => {
             let mut walker = LL1Analyzer::new(atn);
-            answer_each(heap, &mut walker, shown, questions)
+            answer_each(heap, &mut walker, lists, shown, questions)
         }
         LookaheadKind::Table => {
             let mut table = Table::new(heap, atn)?;
-            answer_each(heap, &mut table, shown, questions)
+            answer_each(heap, &mut table, lists, shown, questions)
         }
         LookaheadKind::Cache => {
             let mut cache = Cache::new(LL1Analyzer::new(atn));
-            answer_each(heap, &mut cache, shown, questions)
+            answer_each(heap, &mut cache, lists, shown, questions)
         }
     }
 }

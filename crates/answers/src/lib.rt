@@ -3,5 +3,7 @@
 
 pub mod answer;
 pub mod asking;
+pub mod leaf_lists;
+pub mod leaves;
 pub mod shown;
 pub mod tape;

@@ -1,5 +1,5 @@
 -- A leaf is made from its seven numbers alone.
-use Rattle.std.proofs.Common.{◌≡◌, ◌∙◌, ◌<◌, ◌∷◌, [], ℕ, length, get_or, refl, arith, List, ℤ, Some, None, Option, MatchOption, sym, ap, subst}
+use Rattle.std.proofs.Common.{◌≡◌, ◌∙◌, ◌∷◌, [], length, get_or, refl, arith, List, ℤ, Some, None, Option, MatchOption, sym, ap, subst}
 use Rattle.records.specs.Leaves.{Said, LeafFits}
 use Rattle.records.specs.LeafLines.{numbers}
 use Rattle.records.specs.Single.{numbers_tell}

@@ -1,5 +1,5 @@
 -- What a question asks, by its first word and its numbers.
-use Rattle.std.specs.Prelude.{◌≡◌, ◌≢◌, ℕ, ◌-◌, ◌^◌, ◌<◌, List, length, [], ◌∷◌, map, ℤ, pos, negsuc, Option, Some, None, codes}
+use Rattle.std.specs.Prelude.{◌≡◌, ℕ, ◌-◌, ◌^◌, ◌<◌, List, length, [], ◌∷◌, map, ℤ, pos, negsuc, Option, Some, None, codes}
 use Rattle.script.specs.declared.question.AskWord.{AskWord}
 use Rattle.script.specs.declared.question.AskWord.TheVariants as word
 use Rattle.script.specs.declared.question.Ask.{Ask}

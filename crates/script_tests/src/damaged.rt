@@ -4,7 +4,7 @@ use std::alloc::Global;
 use std::process::Abort;
 use std::test::*;
 
-const TOO_FEW: [(&str, &str); 8] = [
+const TOO_FEW: [(&str, &str); 9] = [
     ("net", "line 1: expected net MAX, one number"),
     (
         "net 1\ncounts 1 2 3",
@@ -34,6 +34,7 @@ const TOO_FEW: [(&str, &str); 8] = [
         "net 1\nlane 1 0 1",
         "line 2: expected lane TYPE CHANNEL LINE COLUMN, four numbers",
     ),
+    ("net 1\nleaves", "line 2: expected leaves N, one number"),
 ];
 
 const TOO_MANY: [(&str, &str); 9] = [
@@ -99,19 +100,19 @@ const NO_NUMBER: [(&str, &str); 6] = [
 const UNKNOWN: [(&str, &str); 4] = [
     (
         "Net 1",
-        "line 1: expected net, counts, rule, state, edge, interval, word, lane or summary",
+        "line 1: expected net, counts, rule, state, edge, interval, word, lane, leaves or summary",
     ),
     (
         "net 1\nnets 1\n",
-        "line 2: expected net, counts, rule, state, edge, interval, word, lane or summary",
+        "line 2: expected net, counts, rule, state, edge, interval, word, lane, leaves or summary",
     ),
     (
         "net 1\n-\nrule",
-        "line 2: expected net, counts, rule, state, edge, interval, word, lane or summary",
+        "line 2: expected net, counts, rule, state, edge, interval, word, lane, leaves or summary",
     ),
     (
         "net 1\n7 # 8",
-        "line 2: expected net, counts, rule, state, edge, interval, word, lane or summary",
+        "line 2: expected net, counts, rule, state, edge, interval, word, lane, leaves or summary",
     ),
 ];
 
@@ -163,6 +164,27 @@ const NO_QUESTION: [(&str, &str); 11] = [
         "line 2: expected show all or channel0",
     ),
     ("net 1\ntokens 1", "line 2: expected tokens, no number"),
+];
+
+const LEAF: &str =
+    "line 2: expected leaf KIND DEPTH RULE TYPE INDEX LINE COLUMN, seven numbers within their limits";
+
+const NO_LEAF: [&str; 15] = [
+    "leaf 1 1 0 1 0 1",
+    "leaf 1 1 0 1 0 1 0 0",
+    "leaf 0 1 0 1 0 1 0",
+    "leaf 3 1 0 1 0 1 0",
+    "leaf 1 0 0 1 0 1 0",
+    "leaf 1 65 0 1 0 1 0",
+    "leaf 1 1 -1 1 0 1 0",
+    "leaf 1 1 64 1 0 1 0",
+    "leaf 1 1 0 -2 0 1 0",
+    "leaf 1 1 0 256 0 1 0",
+    "leaf 1 1 0 1 -2 1 0",
+    "leaf 1 1 0 1 65535 1 0",
+    "leaf 1 1 0 1 0 -1 0",
+    "leaf 1 1 0 1 0 1000001 0",
+    "leaf 1 1 0 1 0 1 1000001",
 ];
 
 const OTHER_KIND: [(&str, &str); 2] = [
@@ -250,6 +272,16 @@ fn no_net_line(rt: HostRuntime) -> Result<(), Fail> {
 #[test]
 fn words_that_are_no_question(rt: HostRuntime) -> Result<(), Fail> {
     refused(&rt, rt.alloc(), &NO_QUESTION)
+}
+
+#[test]
+fn numbers_that_are_no_leaf(rt: HostRuntime) -> Result<(), Fail> {
+    let heap = rt.alloc();
+    for line in NO_LEAF {
+        let text = format!(in heap; "net 1\n{line}")?;
+        refused(&rt, heap, &[(text.as_str(), LEAF)])?;
+    }
+    Ok(())
 }
 
 #[test]

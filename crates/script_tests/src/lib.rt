@@ -4,6 +4,8 @@
 #[cfg(test)]
 mod damaged;
 #[cfg(test)]
+mod leaves;
+#[cfg(test)]
 mod many;
 #[cfg(test)]
 mod questions;

@@ -54,7 +54,12 @@ const DENIED: [&str; 10] = [
 fn answered(rt: &impl Abort, heap: Global, rows: &str, answer: &str) -> Result<(), Fail> {
     let text = format!(in heap; "{PASS}{rows}\n")?;
     let printed = printed(heap, text.as_str())?;
-    let expected = format!(in heap; "net ok\n{answer}")?;
+    let end = if answer.starts_with("tape ok") {
+        "leaves 0 added 1000 free\nreports 0\n"
+    } else {
+        ""
+    };
+    let expected = format!(in heap; "net ok\n{answer}{end}")?;
     assert_eq!(rt; printed.as_str(), expected.as_str());
     Ok(())
 }

@@ -1,4 +1,4 @@
-use Rattle.std.proofs.Common.{◌≡◌, ◌∙◌, ◌∷◌, [], ℤ, pos, get_or, length, rules}
+use Rattle.std.proofs.Common.{◌≡◌, ◌∙◌, ◌∷◌, [], pos, get_or, length, rules}
 use Rattle.records.specs.Leaves.{leaf_number}
 use Rattle.token.specs.Tokens.{type_number, index_number}
 use Rattle.script.proofs.LeafRows.{leaf_made, seven}

@@ -1,0 +1,44 @@
+-- The last line of a writer is that of the leaf that was added last.
+use Rattle.std.proofs.Common.{◌≡◌, ◌∙◌, ℕ, ◌+◌, ◌-◌, ◌<◌, ◌≤◌, List, [], ◌∷◌, ◌++◌, length, drop, get_or, All, Ok, Err, Result, is_ok, inl, inr, refl, ap, sym, subst, arith}
+use Rattle.std.specs.List.{flat_map}
+use Rattle.std.proofs.lemmas.Bool.{cases_lt, false≢true}
+use Rattle.std.proofs.lemmas.List.{length-append, length_push, get_or_push, append-nil, drop_at}
+use Rattle.std.proofs.lemmas.Grind.{flat_map-append}
+use Rattle.records.specs.declared.leaf_writer.LeafWriter.{LeafWriter}
+use Rattle.errors.specs.declared.denial.Denial.{Denial}
+use Rattle.errors.specs.declared.denial.Denial.TheVariants.{NoLeafFree}
+use Rattle.records.specs.Leaves.{Said, LeafFits}
+use Rattle.records.specs.LeafLines.{leaf_line}
+use Rattle.records.specs.Lengths.{length_line}
+use Rattle.records.specs.Writers.{leaves_written}
+
+leaves_fit : (w : LeafWriter) → All LeafFits (leaves_written w)
+unfolding leaves_written
+leaves_fit w = w.written.fit
+
+module _ (w : LeafWriter) (old : List Said) (l : Said) (is : leaves_written w ≡ old ++ l ∷ []) where
+  abbrev text : List ℕ
+  text = flat_map leaf_line (leaves_written w)
+
+  fits : LeafFits l
+  fits =
+      let at : get_or (old ++ l ∷ []) (length old) l ≡ l = get_or_push old l l (length old) refl in
+      subst LeafFits at (subst (All LeafFits) is (leaves_fit w) (length old) l (omega (arith, length_push old l)))
+
+  split : text ≡ flat_map leaf_line old ++ leaf_line l
+  split = ap (flat_map leaf_line) is ∙ flat_map-append leaf_line old (l ∷ []) ∙ ap (λ ys. flat_map leaf_line old ++ ys) (append-nil (leaf_line l))
+
+  long : length text ≡ length (flat_map leaf_line old) + 57
+  long = ap length split ∙ length-append (flat_map leaf_line old) (leaf_line l) ∙ ap (λ k. length (flat_map leaf_line old) + k) (length_line l fits)
+
+  pub long_enough : 57 ≤ length text
+  long_enough = omega (arith, long)
+
+  pub last_line : drop (length text - 57) text ≡ leaf_line l
+  last_line =
+      let before : length text - 57 ≡ length (flat_map leaf_line old) = omega (arith, long) in
+      ap (λ k. drop k text) before ∙ ap (drop (length (flat_map leaf_line old))) split ∙ drop_at (flat_map leaf_line old) (leaf_line l) (length (flat_map leaf_line old)) refl
+
+-- what is taken had a free place
+pub some_free : {X : Type 0} (n : ℕ) (r : Result (Unit {0}) Denial) (u : Unit {0}) → r ≡ Ok u → (n ≡ 0 → (r ≡ Err NoLeafFree) × X) → 0 < n
+some_free n r u ok full = elim (cases_lt 0 n) [ inl l ↦ l | inr z ↦ absurd (false≢true (sym (ap is_ok (full (omega (arith, z))).0) ∙ ap is_ok ok)) ]

@@ -1,0 +1,80 @@
+// Adding a leaf to both lists.
+ghost use Rattle.std.specs.Prelude.{◌≡◌, ◌-◌, ◌/◌, IfOk, OnOk, length, min};
+ghost use Rattle.records.specs.Lists.{behind};
+ghost use Rattle.records.specs.Writers.{unwritten};
+ghost use Rattle.answers.specs.Leaves.{LeafAnswer, room};
+
+use crate::leaf_lists::LeafLists;
+use errors::denial::Denial;
+use records::leaf::{Leaf, LeafKind};
+use records::leaf_list::LeafList;
+use records::leaf_table::LeafTable;
+use records::leaf_writer::LeafWriter;
+use std::alloc::{AllocError, Global};
+use token::token_type::TokenType;
+
+// The bytes of a line.
+pub const LINE: usize = 57;
+
+// A leaf as each list has it last.
+#[derive(Drop)]
+pub struct AddedLeaf {
+    pub leaf: Leaf,
+    pub line: Vec<u8>,
+}
+
+// What lies in the memory of a table before there is a leaf.
+pub(crate) fn no_leaf() -> Leaf {
+    Leaf::new(LeafKind::Terminal, 1, 0, TokenType::Eof, None, (0, 0)).unwrap()
+}
+
+impl<'a> LeafLists<'a> {
+    // Empty ones. Memory beyond what both can use stays unused.
+    pub fn new(leaves: &'a mut [Leaf], text: &'a mut [u8]) -> LeafLists<'a>
+        ensures { room result ≡ min (length leaves.old) (length text.old / 57) }
+    {
+        let places = leaves.len().min(text.len() / LINE);
+        LeafLists {
+            table: LeafTable::new(&mut leaves[..places]),
+            writer: LeafWriter::new(&mut text[..places * LINE]),
+        }
+    }
+
+    // How many more leaves there is room for.
+    pub fn free(&self) -> usize
+        ensures { result ≡ room self.now }
+    {
+        self.table.free()
+    }
+
+    pub fn add(&mut self, heap: Global, leaf: Leaf) -> Result<Result<AddedLeaf, Denial>, AllocError>
+        ensures answer { IfOk result (LeafAnswer (room self.old) leaf) }
+        ensures one_fewer { OnOk result (room self.new ≡ room self.old - 1) }
+    {
+        add_leaf(heap, &mut self.table, &mut self.writer, leaf)
+    }
+}
+
+// Adds the leaf to both.
+fn add_leaf(
+    heap: Global,
+    table: &mut LeafTable<'_>,
+    writer: &mut LeafWriter<'_>,
+    leaf: Leaf,
+) -> Result<Result<AddedLeaf, Denial>, AllocError>
+    requires { length (unwritten writer.old) / 57 ≡ length (behind table.old) }
+    ensures alike { length (unwritten writer.new) / 57 ≡ length (behind table.new) }
+    ensures answer { IfOk result (LeafAnswer (length (behind table.old)) leaf) }
+    ensures one_fewer { OnOk result (length (behind table.new) ≡ length (behind table.old) - 1) }
+{
+    if let Err(denial) = table.add(leaf) {
+        return Ok(Err(denial));
+    }
+    if let Err(denial) = writer.add(leaf) {
+        return Ok(Err(denial));
+    }
+    let text = writer.as_bytes();
+    let line = text[text.len() - LINE..].to_vec(heap)?;
+    let last = table.as_slice()[table.len() - 1];
+    Ok(Ok(AddedLeaf { leaf: last, line }))
+}
