@@ -1,0 +1,4 @@
+pub mod Expected
+pub mod Justified
+pub mod Memory
+pub mod Texts

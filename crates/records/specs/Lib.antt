@@ -1,0 +1,9 @@
+pub mod Lists
+pub mod Leaves
+pub mod Adding
+pub mod LeafLines
+pub mod Lengths
+pub mod Single
+pub mod Writers
+pub mod Reports
+pub mod Heard

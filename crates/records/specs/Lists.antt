@@ -1,0 +1,11 @@
+-- What a bounded list holds, and what lies behind it.
+use Rattle.std.specs.Prelude.{List, take, drop}
+use Rattle.records.specs.declared.bounded_list.BoundedList.{BoundedList}
+
+-- the records, in their order
+abbrev pub listed : {T : Type 0} → BoundedList T → List T
+listed l = take l.len l.slots.now
+
+-- the free places, as they lie in the memory
+abbrev pub behind : {T : Type 0} → BoundedList T → List T
+behind l = drop l.len l.slots.now

@@ -1,0 +1,33 @@
+// A table of leaves.
+ghost use Rattle.std.specs.Prelude.{length};
+ghost use Rattle.records.specs.Lists.{listed, behind};
+ghost use Rattle.records.specs.Leaves.{Said};
+
+use crate::bounded_list::BoundedList;
+use crate::leaf::Leaf;
+use crate::leaf_list::LeafList;
+use errors::denial::Denial;
+
+pub type LeafTable<'a> = BoundedList<'a, Leaf>;
+
+impl<'a> LeafList for LeafTable<'a> {
+    ghost leaves = { listed };
+
+    ghost free = { λ t. length (behind t) };
+
+    ghost Place = { Said };
+
+    ghost rest = { behind };
+
+    ghost size = { 1 };
+
+    ghost lent = { λ t. t.slots.ghost_name };
+
+    fn free(&self) -> usize {
+        BoundedList::free(self)
+    }
+
+    fn add(&mut self, leaf: Leaf) -> Result<(), Denial> {
+        self.push(leaf).map_err(|_| Denial::NoLeafFree)
+    }
+}

@@ -1,0 +1,63 @@
+// What a bounded list holds, and how it grows.
+ghost use Rattle.std.specs.Prelude.{◌≡◌, ◌<◌, ◌≤◌, ◌++◌, [], ◌∷◌, length, drop, Ok, Err};
+ghost use Rattle.records.specs.Lists.{listed, behind};
+
+use crate::bounded_list::{BoundedList, Full};
+
+impl<'a, T: Copy> BoundedList<'a, T> {
+    pub fn new(slots: &'a mut [T]) -> BoundedList<'a, T>
+        ensures same_memory { result.slots.ghost_name ≡ slots.entry.ghost_name }
+        ensures empty { listed result ≡ [] }
+        ensures untouched { behind result ≡ slots.old }
+    {
+        BoundedList { slots, len: 0 }
+    }
+
+    pub fn len(&self) -> usize
+        ensures { result ≡ length (listed self.now) }
+    {
+        self.as_slice().len()
+    }
+
+    pub fn free(&self) -> usize
+        ensures { result ≡ length (behind self.now) }
+    {
+        self.slots.len() - self.len
+    }
+
+    // The records, in their order.
+    pub fn as_slice(&self) -> &[T]
+        ensures { result.now ≡ listed self.now }
+    {
+        &self.slots[..self.len]
+    }
+
+    // One record more, in the next place.
+    pub fn push(&mut self, x: T) -> Result<(), Full>
+        ensures same_memory { self.new.slots.ghost_name ≡ self.old.slots.ghost_name }
+        ensures room { 0 < length (behind self.old) → (result ≡ Ok tt) × (listed self.new ≡ listed self.old ++ x ∷ []) × (behind self.new ≡ drop 1 (behind self.old)) }
+        ensures full { behind self.old ≡ [] → (result ≡ Err (record {})) × (self.new ≡ self.old) }
+    {
+        if self.len == self.slots.len() {
+            return Err(Full);
+        }
+        self.slots[self.len] = x;
+        self.len += 1;
+        Ok(())
+    }
+
+    // All of the records, or none of them.
+    pub fn extend_from_slice(&mut self, xs: &[T]) -> Result<(), Full>
+        ensures same_memory { self.new.slots.ghost_name ≡ self.old.slots.ghost_name }
+        ensures room { length xs.now ≤ length (behind self.old) → (result ≡ Ok tt) × (listed self.new ≡ listed self.old ++ xs.now) × (behind self.new ≡ drop (length xs.now) (behind self.old)) }
+        ensures full { length (behind self.old) < length xs.now → (result ≡ Err (record {})) × (self.new ≡ self.old) }
+    {
+        if self.free() < xs.len() {
+            return Err(Full);
+        }
+        let end = self.len + xs.len();
+        self.slots[self.len..end].copy_from_slice(xs);
+        self.len = end;
+        Ok(())
+    }
+}

@@ -1,0 +1,87 @@
+// Reports of faults.
+ghost use Rattle.std.specs.Prelude.{◌≡◌, ◌≤◌, false, ℤ};
+ghost use Rattle.interval_set.specs.Intervals.{smallest};
+ghost use Rattle.interval_set.specs.Members.{holds};
+ghost use Rattle.records.specs.Reports.{report_number, expects, types_in, IsSmallest};
+
+use interval_set::set::IntervalSet;
+use token::token_type::TokenType;
+
+#[derive(Clone, Copy, PartialEq, Eq, Debug)]
+pub enum ReportKind {
+    NoViableAlternative = 1,
+    InputMismatch = 2,
+    FailedPredicate = 3,
+    UnwantedToken = 4,
+    MissingToken = 5,
+}
+
+impl ReportKind {
+    pub fn number(self) -> u8
+        ensures { result ≡ report_number self }
+    {
+        self as u8
+    }
+}
+
+// A fault at a token, and what would have fitted there.
+#[derive(Clone, Copy, PartialEq, Eq, Debug)]
+pub struct Report {
+    pub kind: ReportKind,
+    // the token's own index, none if it was made up
+    pub index: Option<u16>,
+    pub line: u32,
+    pub column: u32,
+    // how many types were expected, and the smallest of them
+    pub expected: u16,
+    pub smallest: TokenType,
+}
+
+// The set without -2, which is the number of no type.
+fn types_of(expected: &IntervalSet) -> IntervalSet
+    ensures { (x : ℤ) → holds result x ≡ expects expected.now x }
+{
+    let mut types = *expected;
+    types.remove_one(-2);
+    types
+}
+
+fn smallest_of(types: &IntervalSet) -> TokenType
+    requires { holds types.now smallest ≡ false }
+    ensures { IsSmallest (holds types.now) result }
+{
+    let Some(smallest) = types.get_min() else {
+        return TokenType::Of(0);
+    };
+    match u8::try_from(smallest) {
+        Ok(t) => TokenType::Of(t),
+        Err(_) => TokenType::Eof,
+    }
+}
+
+impl Report {
+    // What was expected is told by its count and its smallest type.
+    pub fn new(
+        kind: ReportKind,
+        index: Option<u16>,
+        position: (u32, u32),
+        expected: &IntervalSet,
+    ) -> Report
+        ensures kind { result.kind ≡ kind }
+        ensures token { (result.index ≡ index) × (result.line ≡ position.0) × (result.column ≡ position.1) }
+        ensures count { result.expected ≡ types_in (expects expected.now) }
+        ensures few { result.expected ≤ 257 }
+        ensures smallest { IsSmallest (expects expected.now) result.smallest }
+    {
+        let types = types_of(expected);
+        let (line, column) = position;
+        Report {
+            kind,
+            index,
+            line,
+            column,
+            expected: types.length() as u16,
+            smallest: smallest_of(&types),
+        }
+    }
+}

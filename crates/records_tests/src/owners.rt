@@ -1,0 +1,64 @@
+// What the owner of a lent table knows once code that is generic has written to it.
+ghost use Rattle.std.specs.Prelude.{◌≡◌, ◌<◌, ◌≤◌, [], ◌∷◌, ◌++◌, drop, length};
+ghost use Rattle.records.specs.Adding.{Grown};
+ghost use Rattle.records.specs.LeafLines.{leaf_line};
+ghost use Rattle.records.specs.Heard.{hears};
+
+use interval_set::set::IntervalSet;
+use records::bounded_list::BoundedList;
+use records::counter::Counter;
+use records::leaf::Leaf;
+use records::leaf_list::LeafList;
+use records::leaf_table::LeafTable;
+use records::leaf_writer::LeafWriter;
+use records::listener::Listener;
+use records::recorder::Recorder;
+use records::report::Report;
+
+pub fn add_two<L: LeafList>(l: &mut L, a: Leaf, b: Leaf)
+    ensures same_memory { L.lent l.new ≡ L.lent l.old }
+    ensures two { 1 < L.free l.old → Grown L.leaves L.free L.rest L.size l.old (a ∷ b ∷ []) l.new }
+{
+    let _ = l.add(a);
+    let _ = l.add(b);
+}
+
+pub fn fill(table: &mut [Leaf], a: Leaf, b: Leaf)
+    requires { 1 < length table.old }
+    ensures { table.new ≡ a ∷ b ∷ drop 2 table.old }
+{
+    let mut t: LeafTable = BoundedList::new(table);
+    add_two(&mut t, a, b);
+}
+
+pub fn write_two(table: &mut [u8], a: Leaf, b: Leaf)
+    requires { 114 ≤ length table.old }
+    ensures { table.new ≡ leaf_line a ++ leaf_line b ++ drop 114 table.old }
+{
+    let mut w = LeafWriter::new(table);
+    add_two(&mut w, a, b);
+}
+
+pub fn report_two<L: Listener>(l: &mut L, a: Report, b: Report, expected: &IntervalSet)
+    ensures same_memory { L.lent l.new ≡ L.lent l.old }
+    ensures two { L.heard l.new ≡ hears b (hears a (L.heard l.old)) }
+{
+    l.report(a, expected);
+    l.report(b, expected);
+}
+
+pub fn record_two(table: &mut [Report], a: Report, b: Report, expected: &IntervalSet)
+    requires { length table.old ≡ 1 }
+    ensures { table.new ≡ a ∷ [] }
+{
+    let mut r = Recorder::new(table);
+    report_two(&mut r, a, b, expected);
+}
+
+pub fn count_two(a: Report, b: Report, expected: &IntervalSet) -> u32
+    ensures { result ≡ 2 }
+{
+    let mut c = Counter::new();
+    report_two(&mut c, a, b, expected);
+    c.heard()
+}
