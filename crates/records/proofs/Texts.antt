@@ -1,14 +1,17 @@
 -- The leaves of a text as it grows.
-use Rattle.std.proofs.Common.{◌≡◌, ℕ, List, [], ◌∷◌, ◌++◌, sym, ap, ◌∙◌}
+use Rattle.std.proofs.Common.{◌≡◌, ℕ, ◌+◌, ◌-◌, ◌≤◌, take, drop, length, arith, List, [], ◌∷◌, ◌++◌, sym, ap, ◌∙◌}
+use borrow.Rule.Slice.PartMut.{put_mid, post_of}
 use Rattle.std.specs.List.{flat_map}
 use Rattle.std.proofs.lemmas.Grind.{flat_map-append}
-use Rattle.std.proofs.lemmas.List.{append-nil}
+use Rattle.std.proofs.lemmas.List.{append-nil, length-append, length-take-le, drop-drop}
+use Rattle.std.proofs.lemmas.Slice.{take-put_mid, drop-put_mid}
 use Rattle.std.proofs.lemmas.List.Elements.{All-nil, All-push}
 use Rattle.records.specs.declared.leaf_writer.LeafWriter.{LeafWriter}
 use Rattle.records.specs.Leaves.{Said, LeafFits}
 use Rattle.records.specs.LeafLines.{leaf_line, Written}
+use Rattle.records.specs.Lengths.{length_line}
 use Rattle.records.specs.Single.{lines_tell}
-use Rattle.records.specs.Writers.{text, leaves_written}
+use Rattle.records.specs.Writers.{text, unwritten, leaves_written}
 
 abbrev pub written_more : (old new : List ℕ) (l : Said) → Written old → LeafFits l → new ≡ old ++ leaf_line l → Written new
 written_more old new l w f e = record {
@@ -32,3 +35,26 @@ leaves_more old new l f e = same_leaves new.written (written_more (text old) (te
 pub leaves_lines : (w : LeafWriter) → text w ≡ flat_map leaf_line (leaves_written w)
 unfolding leaves_written
 leaves_lines w = w.written.lines
+
+-- The memory once a line was put behind the text.
+module _ (w : LeafWriter) (l : Said) (f : LeafFits l) (line : List ℕ) (e : line ≡ leaf_line l) where
+  abbrev end : ℕ
+  end = w.len + 57
+
+  abbrev memory : List ℕ
+  memory = put_mid w.len (end - w.len) w.memory.now line
+
+  long : length line ≡ 57
+  long = ap length e ∙ length_line l f
+
+  pub text_put : take end memory ≡ text w ++ leaf_line l
+  text_put = take-put_mid w.len (end - w.len) w.memory.now line end (omega (arith, long)) w.few ∙ ap (λ t. text w ++ t) e
+
+  pub rest_put : drop end memory ≡ drop 57 (unwritten w)
+  rest_put = drop-put_mid w.len (end - w.len) w.memory.now line end (omega arith) w.few (omega (arith, long)) ∙ sym (drop-drop 57 w.len w.memory.now)
+
+  pub end_put : end ≤ length memory
+  end_put =
+      let here : length (text w) ≡ w.len = length-take-le w.len w.memory.now w.few in
+      let behind : List ℕ = post_of w.len (end - w.len) w.memory.now in
+      omega (arith, here, long, length-append (text w) (line ++ behind), length-append line behind)

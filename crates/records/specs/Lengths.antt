@@ -1,4 +1,4 @@
--- How long columns and lines are.
+-- How long columns and lines are: nothing here says how they are written.
 use Rattle.std.proofs.Common.{◌≡◌, ℕ, suc, ◌+◌, ◌-◌, ◌*◌, ◌≤◌, ◌<◌, List, [], ◌∷◌, ◌++◌, take, length, replicate, ℤ, pos, ◌≤ℤ◌, All, Option, Some, None, refl, sym, ap, ap₂, mul-zero, mul-suc, ◌∙◌, arith, lit≤, get_or}
 use native.Mathlib.Nat.{add_comm}
 use Rattle.std.specs.Option.{ForSome}

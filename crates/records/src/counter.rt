@@ -44,7 +44,9 @@ impl Listener for Counter {
     ghost lent = { λ _. [] };
 
     fn report(&mut self, report: Report, _expected: &IntervalSet) {
-        self.heard = self.heard.saturating_add(1);
-        self.latest = Some(report);
+        *self = Counter {
+            heard: self.heard.saturating_add(1),
+            latest: Some(report),
+        };
     }
 }

@@ -16,7 +16,7 @@ impl<'a, T: Copy> BoundedList<'a, T> {
     pub fn len(&self) -> usize
         ensures { result ≡ length (listed self.now) }
     {
-        self.len
+        self.as_slice().len()
     }
 
     pub fn free(&self) -> usize
