@@ -1,5 +1,5 @@
 // What a filter shows.
-ghost use Rattle.std.specs.Prelude.{◌≡◌, ◌<◌, ◌≤◌, List, length, drop, pos};
+ghost use Rattle.std.specs.Prelude.{◌≡◌, ◌<◌, ◌≤◌, List, length, drop, pos, IsSomeAnd};
 ghost use Rattle.std.specs.Option.{ForSome};
 ghost use Rattle.token.specs.Tokens.{Fields, is_eof};
 ghost use Rattle.token_stream.specs.Streams.{Keeps, filtered, shown_at, visible};
@@ -100,6 +100,7 @@ impl<'a, S: TokenStream<'a>> Filter<'a, S> {
     fn seek(&mut self, k: i32) -> i32
         ensures keeps { Keeps S.tape S.shown self.old.below self.new.below }
         ensures found { shown_at (S.shown self.old.below) result ≡ shown_at (filtered (S.shown self.old.below)) k }
+        ensures keeps_sight { IsSomeAnd self.new.sight (λ s. result ≡ pos s.ahead) }
     {
         let k = at_least_one(k);
         let seen = self.sight.filter(|s| s.count <= k);
