@@ -89,6 +89,7 @@ def script(rng, shown):
         seen = [i for i, row in enumerate(rows) if "channel0" not in show or row[1] == 0 or row[0] == -1]
         printed += ["tape ok", "tokens: %d" % len(seen)]
         printed += ["  %d: %s %s" % (i, kind, " ".join(map(str, rows[i]))) for i in seen]
+        printed += ["leaves 0 added 1000 free", "reports 0"]
     else:
         printed.append("tape denied 6")
     return text + "tokens\n" + "".join("= %s\n" % line for line in printed)
