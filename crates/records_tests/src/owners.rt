@@ -15,7 +15,7 @@ use records::listener::Listener;
 use records::recorder::Recorder;
 use records::report::Report;
 
-pub fn add_two<L: LeafList>(l: &mut L, a: Leaf, b: Leaf)
+pub(crate) fn add_two<L: LeafList>(l: &mut L, a: Leaf, b: Leaf)
     ensures same_memory { L.lent l.new ≡ L.lent l.old }
     ensures two { 1 < L.free l.old → Grown L.leaves L.free L.rest L.size l.old (a ∷ b ∷ []) l.new }
 {
@@ -23,7 +23,7 @@ pub fn add_two<L: LeafList>(l: &mut L, a: Leaf, b: Leaf)
     let _ = l.add(b);
 }
 
-pub fn fill(table: &mut [Leaf], a: Leaf, b: Leaf)
+pub(crate) fn fill(table: &mut [Leaf], a: Leaf, b: Leaf)
     requires { 1 < length table.old }
     ensures { table.new ≡ a ∷ b ∷ drop 2 table.old }
 {
@@ -31,7 +31,7 @@ pub fn fill(table: &mut [Leaf], a: Leaf, b: Leaf)
     add_two(&mut t, a, b);
 }
 
-pub fn write_two(table: &mut [u8], a: Leaf, b: Leaf)
+pub(crate) fn write_two(table: &mut [u8], a: Leaf, b: Leaf)
     requires { 114 ≤ length table.old }
     ensures { table.new ≡ leaf_line a ++ leaf_line b ++ drop 114 table.old }
 {
@@ -39,7 +39,7 @@ pub fn write_two(table: &mut [u8], a: Leaf, b: Leaf)
     add_two(&mut w, a, b);
 }
 
-pub fn report_two<L: Listener>(l: &mut L, a: Report, b: Report, expected: &IntervalSet)
+pub(crate) fn report_two<L: Listener>(l: &mut L, a: Report, b: Report, expected: &IntervalSet)
     ensures same_memory { L.lent l.new ≡ L.lent l.old }
     ensures two { L.heard l.new ≡ hears b (hears a (L.heard l.old)) }
 {
@@ -47,7 +47,7 @@ pub fn report_two<L: Listener>(l: &mut L, a: Report, b: Report, expected: &Inter
     l.report(b, expected);
 }
 
-pub fn record_two(table: &mut [Report], a: Report, b: Report, expected: &IntervalSet)
+pub(crate) fn record_two(table: &mut [Report], a: Report, b: Report, expected: &IntervalSet)
     requires { length table.old ≡ 1 }
     ensures { table.new ≡ a ∷ [] }
 {
@@ -55,7 +55,7 @@ pub fn record_two(table: &mut [Report], a: Report, b: Report, expected: &Interva
     report_two(&mut r, a, b, expected);
 }
 
-pub fn count_two(a: Report, b: Report, expected: &IntervalSet) -> u32
+pub(crate) fn count_two(a: Report, b: Report, expected: &IntervalSet) -> u32
     ensures { result ≡ 2 }
 {
     let mut c = Counter::new();
