@@ -1,0 +1,64 @@
+-- The calls and what they answer, by their numbers.
+use Rattle.std.specs.Prelude.{ℕ, List, [], ◌∷◌, ◌++◌, map, ℤ, pos}
+use Rattle.errors.specs.declared.denial.Denial.{Denial}
+use Rattle.errors.specs.Denials.{denial_number}
+use Rattle.fixed_vec.specs.Items.{items}
+use Rattle.token.specs.Tokens.{Fields, type_number, index_number}
+use Rattle.recovery_model.specs.declared.call.Call.{Call}
+use Rattle.recovery_model.specs.declared.call.Call.TheVariants.{State, Enter, Leave, Match, Wildcard, Sync, Report, Recover}
+use Rattle.recovery_model.specs.declared.answer.Mismatch.{Mismatch as MismatchAnswer}
+use Rattle.recovery_model.specs.declared.answer.Answer.{Answer}
+use Rattle.recovery_model.specs.declared.answer.Answer.TheVariants as answer
+
+abbrev pub call_number : Call → ℕ
+call_number (State s) = 1
+call_number (Enter r) = 2
+call_number Leave = 3
+call_number (Match t) = 4
+call_number Wildcard = 5
+call_number Sync = 6
+call_number (Report k) = 7
+call_number Recover = 8
+
+-- a token that did not match, and where the parser stood: its state, and the invoking states of its open rules
+pub record Kept : Type 0 where
+  pub token : Fields
+  pub state : ℕ
+  pub chain : List ℕ
+
+abbrev pub kept : MismatchAnswer → Kept
+kept m = record { token = m.token; state = m.state; chain = items m.chain }
+
+-- what a call answers
+pub data Said : Type 0 where
+  Done : Said
+  Left : ℕ → Said
+  Token : Fields → Said
+  Mismatch : Kept → Said
+  Denied : Denial → Said
+
+abbrev pub said : Answer → Said
+said answer.Done = Done
+said (answer.Left n) = Left n
+said (answer.Token t) = Token t
+said (answer.Mismatch m) = Mismatch (kept m)
+said (answer.Denied d) = Denied d
+
+abbrev pub answer_number : Said → ℕ
+answer_number Done = 1
+answer_number (Left n) = 2
+answer_number (Token t) = 3
+answer_number (Mismatch m) = 4
+answer_number (Denied d) = 5
+
+-- type, own index, line and column
+abbrev pub token_values : Fields → List ℤ
+token_values t = type_number t.typ ∷ index_number t.index ∷ pos t.position.0 ∷ pos t.position.1 ∷ []
+
+-- the values of an answer: of a mismatch the token's, the state and the chain
+abbrev pub answer_values : Said → List ℤ
+answer_values Done = []
+answer_values (Left n) = pos n ∷ []
+answer_values (Token t) = token_values t
+answer_values (Mismatch m) = token_values m.token ++ pos m.state ∷ map pos m.chain
+answer_values (Denied d) = pos (denial_number d) ∷ []

@@ -1,0 +1,120 @@
+-- What has happened so far, told by accepted calls, their answers and the tokens shown, and never by what the parser notes.
+-- A history has the latest event first.
+use Rattle.std.specs.Prelude.{ℕ, Bool, true, false, not, ◌&&◌, ◌==◌, List, [], ◌∷◌, filter, nat_le, Option, Some, None, unwrap_or, option_to_list, if◌then◌else◌}
+use Rattle.std.specs.List.{flat_map}
+use Rattle.atn_graph.specs.Net.{Net, rule_at, state_at}
+use Rattle.ll1_analyzer.specs.Chains.{follow_states}
+use Rattle.token.specs.Tokens.{Fields, own, is_eof}
+use Rattle.token_stream.specs.Tapes.{token_at}
+use Rattle.recovery_model.specs.declared.call.Call.{Call}
+use Rattle.recovery_model.specs.declared.call.Call.TheVariants.{State, Enter, Leave, Match, Wildcard, Sync, Recover}
+use Rattle.recovery_model.specs.Calls.{Said, Token, Denied}
+use Rattle.recovery_model.specs.Journals.{Happened}
+use Rattle.recovery_model.specs.Syncs.{Choice, Begins, choice}
+
+-- the present state, and the open rules by the states that invoked them, innermost first
+pub record Standing : Type 0 where
+  pub state : Option ℕ
+  pub invoking : List (Option ℕ)
+
+abbrev pub is_accepted : Said → Bool
+is_accepted (Denied d) = false
+is_accepted a = true
+
+abbrev pub moved : Net → Call → Standing → Standing
+moved n (State s) p = record p { state = Some s }
+moved n (Enter r) p = record { state = Some (rule_at n r).start; invoking = p.state ∷ p.invoking }
+moved n Leave p = at p.invoking
+  where
+    at : List (Option ℕ) → Standing
+    at [] = p
+    at (i ∷ is) = record { state = i; invoking = is }
+moved n c p = p
+
+-- Accepted state, enter and leave calls move the parser, and nothing else does.
+abbrev pub standing : Net → List Happened → Standing
+standing n [] = record { state = None; invoking = [] }
+standing n (e ∷ h) = if is_accepted e.answer then moved n e.call (standing n h) else standing n h
+
+abbrev pub present : Net → List Happened → ℕ
+present n h = unwrap_or (standing n h).state 0
+
+-- the follow states of the open rules
+abbrev pub open_follows : Net → List Happened → List ℕ
+open_follows n h = follow_states n (flat_map option_to_list (standing n h).invoking)
+
+-- the tokens that are shown from a place on, of those shown at the making
+abbrev pub shown_from : ℕ → List Fields → List Fields
+shown_from p ts = filter (λ t. nat_le p (own t)) ts
+
+-- the place after the token at p: that of the next token shown, or of EOF itself
+abbrev pub next_place : List Fields → ℕ → ℕ
+next_place ts p = at (shown_from p ts)
+  where
+    at : List Fields → ℕ
+    at [] = p
+    at (t ∷ us) = if is_eof t.typ then p else own (token_at us 0)
+
+-- a token of the tape is answered: one that is not made up
+abbrev pub is_of_the_tape : Said → Bool
+is_of_the_tape (Token t) = at t.index
+  where
+    at : Option ℕ → Bool
+    at None = false
+    at (Some i) = true
+is_of_the_tape a = false
+
+abbrev pub begins_choice : Net → ℕ → Bool
+begins_choice n s = at (choice (state_at n s).kind)
+  where
+    at : Choice → Bool
+    at Begins = true
+    at c = false
+
+-- Repair is ended by a match or a wildcard that answers a token of the tape, and by a sync where a choice begins that passes
+-- a token.
+abbrev pub ends_repair : Net → List Happened → Happened → Bool
+ends_repair n h e = is_accepted e.answer && at e.call
+  where
+    at : Call → Bool
+    at (Match t) = is_of_the_tape e.answer
+    at Wildcard = is_of_the_tape e.answer
+    at Sync = begins_choice n (present n h) && not (e.after == e.before)
+    at c = false
+
+abbrev pub is_recover : Happened → Bool
+is_recover e = is_accepted e.answer && at e.call
+  where
+    at : Call → Bool
+    at Recover = true
+    at c = false
+
+-- a recover was called in the state since repair was last ended
+abbrev pub recovered_in : Net → List Happened → ℕ → Bool
+recovered_in n [] s = false
+recovered_in n (e ∷ h) s = if ends_repair n h e then false else if is_recover e && (present n h == s) then true else recovered_in n h s
+
+-- From where the latest recover since repair was last ended searched, if there was one: from the token first shown at its
+-- call, or from the one after it if the guard skipped that. The guard skips if the recover before it searched from the token
+-- now first shown, and one of them was called in the present state.
+abbrev pub latest_search : Net → List Fields → List Happened → Option ℕ
+latest_search n ts [] = None
+latest_search n ts (e ∷ h) =
+    if ends_repair n h e then None
+    else if is_recover e then Some (if is_place (latest_search n ts h) e.before && recovered_in n h (present n h) then next_place ts e.before else e.before)
+    else latest_search n ts h
+  where
+    is_place : Option ℕ → ℕ → Bool
+    is_place None p = false
+    is_place (Some q) p = q == p
+
+abbrev pub skips : Net → List Fields → List Happened → Happened → Bool
+skips n ts h e = at (latest_search n ts h) && recovered_in n h (present n h)
+  where
+    at : Option ℕ → Bool
+    at None = false
+    at (Some q) = q == e.before
+
+-- where a recover searches from
+abbrev pub searched_from : Net → List Fields → List Happened → Happened → ℕ
+searched_from n ts h e = if skips n ts h e then next_place ts e.before else e.before

@@ -1,0 +1,12 @@
+pub mod Calls
+pub mod Sets
+pub mod Views
+pub mod Passing
+pub mod Repairs
+pub mod Syncs
+pub mod Recovering
+pub mod Denials
+pub mod Steps
+pub mod Journals
+pub mod Histories
+pub mod Law

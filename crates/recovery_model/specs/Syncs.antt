@@ -1,0 +1,86 @@
+-- Sync: whether the parser may go on here, and what it does where it may not.
+use Rattle.std.specs.Prelude.{ℕ, Bool, true, false, not, ◌&&◌, ◌||◌, ℤ, Some, None, unwrap_or, if◌then◌else◌}
+use Rattle.atn_graph.specs.declared.atn_state.StateKind.{StateKind}
+use Rattle.atn_graph.specs.declared.atn_state.StateKind.TheVariants.{BlockStart, PlusBlockStart, StarBlockStart, StarLoopEntry, StarLoopBack, PlusLoopBack}
+use Rattle.atn_graph.specs.Net.{Net, state_at}
+use Rattle.ll1_analyzer.specs.Sets.{epsilon}
+use Rattle.records.specs.declared.report.ReportKind.TheVariants.{UnwantedToken}
+use Rattle.recovery_model.specs.Calls.{Done}
+use Rattle.recovery_model.specs.declared.notes.Mode.{Mode}
+use Rattle.recovery_model.specs.declared.notes.Mode.TheVariants.{Settled, InRepair}
+use Rattle.recovery_model.specs.Sets.{WithinSets, recovery}
+use Rattle.recovery_model.specs.Views.{View, current, ahead, here, follows, own_pair}
+use Rattle.recovery_model.specs.Passing.{before, pass_many, report_of, reported}
+use Rattle.recovery_model.specs.Repairs.{Outcome, does, expects, is_extra, struck, mismatch_at, mismatches}
+
+-- the kinds of states on which a parser may stand before a choice: at the start of a block or the entry of a loop, on the way
+-- back of a loop, or neither
+pub data Choice : Type 0 where
+  Begins : Choice
+  GoesBack : Choice
+  Neither : Choice
+
+abbrev pub choice : StateKind → Choice
+choice BlockStart = Begins
+choice PlusBlockStart = Begins
+choice StarBlockStart = Begins
+choice StarLoopEntry = Begins
+choice StarLoopBack = GoesBack
+choice PlusLoopBack = GoesBack
+choice kind = Neither
+
+abbrev pub choice_here : Net → View → Choice
+choice_here n v = choice (state_at n (here v)).kind
+
+abbrev pub in_repair : View → Bool
+in_repair v = at v.noted.mode
+  where
+    at : Mode → Bool
+    at Settled = false
+    at InRepair = true
+
+-- the current token may come here, or what comes here may be nothing
+abbrev pub may_come : WithinSets → View → Bool
+may_come w v = w (here v) (ahead v 1)
+
+abbrev pub may_be_nothing : WithinSets → View → Bool
+may_be_nothing w v = w (here v) epsilon
+
+-- the types at which a search ends: what is expected, or may follow an open rule
+abbrev pub stops_at : Net → WithinSets → View → ℤ → Bool
+stops_at n w v x = expects n w v x || recovery w (follows n v) x
+
+-- the token does not fit, so something must be done about it
+abbrev pub must_act : WithinSets → View → Bool
+must_act w v = not (in_repair v) && not (may_come w v) && not (may_be_nothing w v)
+
+-- where a choice begins one token is struck if that helps; on the way back of a loop tokens are passed to one that fits
+abbrev pub acts : Choice → Net → WithinSets → View → Outcome
+acts Begins n w v = if is_extra n w v then does (struck n w v) Done else mismatches (mismatch_at (own_pair v) v) v
+acts GoesBack n w v = does (pass_many (before (stops_at n w v) v.shown) (reported (report_of UnwantedToken (current v) (expects n w v)) v)) Done
+acts Neither n w v = does v Done
+
+-- In repair nothing is done. A token that may come clears the saved pair; where nothing may come the pair is saved, unless
+-- one is.
+abbrev pub syncs : Net → WithinSets → View → Outcome
+syncs n w v =
+    if in_repair v then does v Done
+    else if may_come w v then does (record v { noted = record v.noted { saved = None } }) Done
+    else if may_be_nothing w v then does (record v { noted = record v.noted { saved = Some (unwrap_or v.noted.saved (own_pair v)) } }) Done
+    else acts (choice_here n v) n w v
+
+abbrev pub act_leaves : Choice → Net → WithinSets → View → ℕ
+act_leaves Begins n w v = if is_extra n w v then 1 else 0
+act_leaves GoesBack n w v = before (stops_at n w v) v.shown
+act_leaves Neither n w v = 0
+
+abbrev pub sync_leaves : Net → WithinSets → View → ℕ
+sync_leaves n w v = if must_act w v then act_leaves (choice_here n v) n w v else 0
+
+-- a search on a state of another kind
+abbrev pub is_misplaced : Net → WithinSets → View → Bool
+is_misplaced n w v = must_act w v && at (choice_here n v)
+  where
+    at : Choice → Bool
+    at Neither = true
+    at c = false

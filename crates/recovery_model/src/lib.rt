@@ -1,0 +1,9 @@
+// The parser as a model: its calls, what each answers and does.
+#![tactic(auto)]
+
+pub mod answer;
+pub mod call;
+pub mod event;
+pub mod notes;
+pub mod open_rule;
+pub mod token_fields;

@@ -1,0 +1,9 @@
+// A rule that was entered and not left yet.
+#[derive(Clone, Copy, PartialEq, Eq, Debug)]
+pub struct OpenRule {
+    pub rule: u8,
+    // the parser's state when it was entered; none of the outermost rule
+    pub invoking: Option<u16>,
+    // the leaves that were added while it was the innermost
+    pub leaves: u32,
+}
