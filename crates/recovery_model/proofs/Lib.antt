@@ -1,0 +1,3 @@
+pub mod Shown
+pub mod Moves
+pub mod Doing
