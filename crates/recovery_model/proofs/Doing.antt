@@ -1,22 +1,22 @@
 -- What matching and sync do to the notes, and what they answer.
-use Rattle.std.proofs.Common.{◌≡◌, ℕ, zero, suc, ◌<◌, Bool, true, false, not, ◌&&◌, ◌||◌, ◌==◌, ◌⊎◌, List, [], ◌∷◌, length, ℤ, pos, Option, Some, None, sym, refl, ap, ◌∙◌, subst, inl, inr, arith, cond, if◌then◌else◌, get_or}
-use Rattle.std.proofs.lemmas.Bool.{cond_both, both_ways, cases_Bool, and_parts, and_right, or_left, eq-eqb, ne_eqb, cases_eq}
+use Rattle.std.proofs.Common.{◌≡◌, ℕ, Bool, true, false, not, ◌&&◌, ◌||◌, ◌==◌, ◌⊎◌, List, ◌∷◌, ℤ, Option, Some, sym, refl, ap, ◌∙◌, inl, inr}
+use Rattle.std.proofs.lemmas.Bool.{cond_both, both_ways, cases_Bool, and_right, eq-eqb}
 use Rattle.std.specs.Ordering.{int_eq}
-use Rattle.atn_graph.specs.Net.{Net, state_at}
+use Rattle.atn_graph.specs.Net.{Net}
 use Rattle.ll1_analyzer.specs.Sets.{epsilon}
 use Rattle.records.specs.declared.leaf.LeafKind.TheVariants.{Error}
 use Rattle.records.specs.declared.report.ReportKind.TheVariants.{UnwantedToken, MissingToken}
 use Rattle.token.specs.Tokens.{Fields, type_number, is_eof, own}
 use Rattle.token_stream.specs.Tapes.{token_at, EndsInEof}
 use Rattle.token_stream.specs.Streams.{passed}
-use Rattle.recovery_model.specs.Calls.{Said, Token, Done}
+use Rattle.recovery_model.specs.Calls.{Token, Done}
 use Rattle.recovery_model.specs.Sets.{WithinSets, joined}
 use Rattle.recovery_model.specs.Views.{View, Pair, current, place, ahead, here, follows, own_pair}
-use Rattle.recovery_model.specs.Passing.{before, pass, pass_many, report_of, reported, ended, add}
+use Rattle.recovery_model.specs.Passing.{before, pass, pass_many, report_of, reported, ended}
 use Rattle.recovery_model.specs.Repairs.{Outcome, does, expects, is_extra, is_missing, made_up, struck, inserted, mismatch_at, mismatches, takes, repairs, matched}
-use Rattle.recovery_model.specs.Syncs.{Choice, Begins, GoesBack, Neither, choice, choice_here, in_repair, may_come, may_be_nothing, stops_at, acts, syncs}
+use Rattle.recovery_model.specs.Syncs.{Choice, Begins, GoesBack, Neither, choice_here, in_repair, may_come, may_be_nothing, stops_at, acts, syncs}
 use Rattle.recovery_model.specs.Histories.{is_accepted, is_of_the_tape, begins_choice}
-use Rattle.recovery_model.proofs.Shown.{Rises, Numbered, Onward, onward_ends, onward_numbered, passed_moves, ahead_of_eof}
+use Rattle.recovery_model.proofs.Shown.{Rises, Numbered, onward_ends, onward_numbered, passed_moves, ahead_of_eof}
 use Rattle.recovery_model.proofs.Moves.{Same, Cleared, same_self, same_on, cleared_on, cleared_ended, same_add, same_pass, same_many, same_reported, reported_shown}
 
 -- a token of the tape is answered exactly if the notes are cleared

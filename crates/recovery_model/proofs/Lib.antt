@@ -1,3 +1,4 @@
 pub mod Shown
 pub mod Moves
 pub mod Doing
+pub mod Telling

@@ -1,5 +1,5 @@
 -- What passing and reporting keep.
-use Rattle.std.proofs.Common.{◌≡◌, ℕ, zero, suc, ◌<◌, List, [], ◌∷◌, length, map, None, sym, refl, ap, ◌∙◌, subst, arith}
+use Rattle.std.proofs.Common.{◌≡◌, ℕ, zero, suc, List, [], ◌∷◌, map, None, refl, ap, ◌∙◌}
 use Rattle.token_stream.specs.Tapes.{EndsInEof}
 use Rattle.token.specs.Tokens.{Fields}
 use Rattle.records.specs.declared.leaf.LeafKind.{LeafKind}

@@ -1,5 +1,5 @@
 -- What the strategy notes down is what a history says.
-use Rattle.std.specs.Prelude.{◌≡◌, ℕ, ◌<◌, false, List, ◌++◌, length, map, Option, unwrap_or, slice_index_or, All}
+use Rattle.std.specs.Prelude.{◌≡◌, ℕ, ◌<◌, false, List, ◌++◌, length, map, unwrap_or, slice_index_or, All}
 use Rattle.atn_graph.specs.Net.{Net, size}
 use Rattle.token.specs.Tokens.{Fields}
 use Rattle.recovery_model.specs.Views.{View, place}
