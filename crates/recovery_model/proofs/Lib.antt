@@ -1,4 +1,5 @@
 pub mod Shown
 pub mod Moves
 pub mod Doing
+pub mod Fitting
 pub mod Telling

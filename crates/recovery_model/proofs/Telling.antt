@@ -1,7 +1,7 @@
 -- The notes tell what the history says, call by call.
-use Rattle.std.proofs.Common.{◌≡◌, ℕ, zero, suc, ◌<◌, ◌≤◌, Bool, true, false, not, ◌&&◌, ◌==◌, nat_lt, ◌⊎◌, List, [], ◌∷◌, ◌++◌, length, map, ℤ, Option, Some, None, sym, refl, ap, ◌∙◌, subst, ap₂, inl, inr, arith, if◌then◌else◌, unwrap_or, All, slice_index_or, slice_set}
+use Rattle.std.proofs.Common.{◌≡◌, ℕ, zero, suc, ◌<◌, ◌≤◌, Bool, true, false, not, ◌&&◌, ◌==◌, nat_lt, ◌⊎◌, List, [], ◌∷◌, ◌++◌, length, map, reverse, ℤ, Option, Some, None, sym, refl, ap, ◌∙◌, append_assoc, subst, ap₂, inl, inr, arith, if◌then◌else◌, unwrap_or, All, slice_index_or, slice_set}
 use Rattle.std.proofs.lemmas.Bool.{cond_both, cond-true, cond-false, or_parts, and_from, and_right, not-false, eq-eqb, ne_eqb, cases_eq, ltb-true}
-use Rattle.std.proofs.lemmas.List.{get_or-replicate, length-replicate, get_or-set_same, get_or-set_other, length-set}
+use Rattle.std.proofs.lemmas.List.{get_or-replicate, length-replicate, get_or-set_same, get_or-set_other, length-set, reverse-append}
 use Rattle.std.proofs.lemmas.Option.{none-some}
 use Rattle.errors.specs.declared.denial.Denial.{Denial}
 use Rattle.errors.specs.declared.denial.Denial.TheVariants.{OutsideLimits, StateOutside, NoRuleOpen, WrongRule, TooManyRules}
@@ -22,9 +22,10 @@ use Rattle.recovery_model.specs.Repairs.{Outcome, does, matches, matches_any}
 use Rattle.recovery_model.specs.Recovering.{repeats, unstuck, searching, search_length, recovers}
 use Rattle.recovery_model.specs.Denials.{denial, first_fault, is_elsewhere, none_open, is_called}
 use Rattle.recovery_model.specs.Steps.{left, reports, expected_at, accepted, step}
-use Rattle.recovery_model.specs.Journals.{Happened, happens}
-use Rattle.recovery_model.specs.Histories.{is_accepted, is_of_the_tape, begins_choice, moved, standing, present, shown_from, next_place, ends_repair, is_recover, recovered_in, latest_search}
+use Rattle.recovery_model.specs.Journals.{Happened, happens, run, journal}
+use Rattle.recovery_model.specs.Histories.{is_accepted, is_of_the_tape, begins_choice, moved, standing, present, shown_from, next_place, ends_repair, is_recover, recovered_in, latest_search, skips, searched_from}
 use Rattle.recovery_model.specs.Notes.{stands, Inside, Tells}
+use Rattle.recovery_model.proofs.Fitting.{Fit}
 use Rattle.recovery_model.proofs.Shown.{Rises, Numbered, Onward, onward_by, onward_ends, onward_rises, onward_numbered, onward_more, onward_from, onward_next}
 use Rattle.recovery_model.proofs.Moves.{Same, Cleared, same_self, same_pass, same_many, same_reported}
 use Rattle.recovery_model.proofs.Doing.{Matches, matched_so, Syncs, syncs_so}
@@ -70,12 +71,6 @@ never v e = rw e refl
 
 repeats_at : (v : View) (p : ℕ) → v.noted.last ≡ Some p → repeats v ≡ (p == place v && slice_index_or v.noted.marks (here v) false)
 repeats_at v p e = rw e refl
-
--- the net's limits, and its rules' start states
-pub record Fit (n : Net) : Type 0 where
-  pub some : 0 < size n
-  pub few : size n ≤ 512
-  pub starts : (r : ℕ) → r < length n.rules → (rule_at n r).start < size n
 
 module _ (tape first : List Fields) (shows : Shows tape first) (n : Net) (fit : Fit n) where
   numbered : Numbered first
@@ -253,11 +248,25 @@ module _ (tape first : List Fields) (shows : Shows tape first) (n : Net) (fit : 
         ap₂ (λ ms i. slice_index_or (slice_set ms i true) s false) same_unstuck.marks (ap (λ p. unwrap_or p.state 0) same_unstuck.standing)
         ∙ at_mark s b (cases_eq (present n h) s)
 
+    -- the guard skips exactly if the history says so
+    again : (p : ℕ) → latest_search n first h ≡ Some p → repeats v ≡ (p == place v && recovered_in n h (present n h))
+    again p e = repeats_at v p (t.last ∙ e) ∙ ap (λ b. p == place v && b) (t.marks (here v) few ∙ ap (recovered_in n h) is_present)
+
+    skipped : (o : Outcome) → repeats v ≡ skips n first h (told Recover v o)
+    skipped o = at (latest_search n first h) refl
+      where
+        at : (l : Option ℕ) → latest_search n first h ≡ l → repeats v ≡ skips n first h (told Recover v o)
+        at None e = never v (t.last ∙ e) ∙ sym (rw e refl)
+        at (Some p) e = again p e ∙ sym (rw e refl)
+
+    pub searches_from : (o : Outcome) → place (unstuck v) ≡ searched_from n first h (told Recover v o)
+    searches_from o = ap (λ b. place (if b then pass v else v)) (skipped o) ∙ place_if (skips n first h (told Recover v o))
+
     at_recover : (w : WithinSets) → Told Recover (recovers n w v)
     at_recover w = record {
       standing = after.standing ∙ same_unstuck.standing ∙ t.standing;
       inside = subst (Inside n) (sym (after.standing ∙ same_unstuck.standing)) t.inside;
-      last = after.last ∙ searched (latest_search n first h) refl;
+      last = after.last ∙ ap Some (searches_from (recovers n w v)) ∙ said (latest_search n first h) refl;
       long = ap length after.marks ∙ length-set (unstuck v).noted.marks (here (unstuck v)) true ∙ ap length same_unstuck.marks ∙ t.long;
       marks = λ s b. ap (λ ms. slice_index_or ms s false) after.marks ∙ mark s b;
       shown = now.shown;
@@ -269,19 +278,18 @@ module _ (tape first : List Fields) (shows : Shows tape first) (n : Net) (fit : 
         u : View
         u = searching (unstuck v)
 
+        e : Happened
+        e = told Recover v (recovers n w v)
+
         after : Same u (pass_many (search_length n w u) u)
         after = same_many (search_length n w u) u (onward_ends v.shown (unstuck v).shown ends same_unstuck.onward)
 
         now : Left (recovers n w v).view
         now = left_by (recovers n w v).view (onward_more first v.shown _ (onward h v t) (onward_more v.shown u.shown _ same_unstuck.onward after.onward))
 
-        searched : (l : Option ℕ) → latest_search n first h ≡ l → Some (place (unstuck v)) ≡ latest_search n first (told Recover v (recovers n w v) ∷ h)
-        searched None e = ap (λ b. Some (place (if b then pass v else v))) (never v (t.last ∙ e)) ∙ sym (rw e refl)
-        searched (Some p) e =
-            let again : repeats v ≡ (p == place v && recovered_in n h (present n h)) =
-            repeats_at v p (t.last ∙ e) ∙ ap (λ b. p == place v && b) (t.marks (here v) few ∙ ap (recovered_in n h) is_present) in
-            let story : latest_search n first (told Recover v (recovers n w v) ∷ h) ≡ Some (if p == place v && recovered_in n h (present n h) then next_place first (place v) else place v) = rw e refl in
-            ap (λ b. Some (place (if b then pass v else v))) again ∙ ap Some (place_if (p == place v && recovered_in n h (present n h))) ∙ sym story
+        said : (l : Option ℕ) → latest_search n first h ≡ l → Some (searched_from n first h e) ≡ latest_search n first (e ∷ h)
+        said None l = rw l refl
+        said (Some p) l = rw l refl
 
     at_call : (c : Call) (w : WithinSets) → denial n w c v ≡ None → Told c (accepted n w c v)
     at_call (State s) w none = at_state s w none
@@ -295,6 +303,15 @@ module _ (tape first : List Fields) (shows : Shows tape first) (n : Net) (fit : 
 
     pub tells_step : (w : WithinSets) (c : Call) → Tells n first (happens n w c v ∷ h) (step n w c v).view
     tells_step w c = by_step (Told c) n w c v (λ d. tells_same _ v (same_self v ends) refl refl refl) (at_call c w)
+
+  -- and so it is after any calls
+  pub tells_run : (w : WithinSets) (cs : List Call) (h : List Happened) (v : View) → Tells n first h v → Tells n first (reverse (journal n w cs v) ++ h) (run n w cs v)
+  tells_run w [] h v t = t
+  tells_run w (c ∷ cs) h v t =
+      let now = happens n w c v in
+      let js = journal n w cs (step n w c v).view in
+      let order : reverse (now ∷ js) ++ h ≡ reverse js ++ now ∷ h = ap (λ xs. xs ++ h) (reverse-append (now ∷ []) js) ∙ append_assoc (reverse js) (now ∷ []) h in
+      subst (λ xs. Tells n first xs (run n w cs (step n w c v).view)) (sym order) (tells_run w cs (now ∷ h) (step n w c v).view (tells_step h v t w c))
 
   pub tells_none : (v : View) → v.state ≡ None → v.open_rules ≡ [] → v.noted ≡ nothing_noted → v.shown ≡ first → Tells n first [] v
   tells_none v state none noted shown =
