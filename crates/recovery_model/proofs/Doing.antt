@@ -32,8 +32,8 @@ module _ (v : View) (ends : EndsInEof v.shown) (numbered : Numbered v.shown) whe
       let still = onward_ends v.shown u.shown ends c.onward in
       inl (cleared_on v u (pass u) c (same_pass u still), of_the_tape (current u) (onward_numbered v.shown u.shown numbered c.onward 0 still.some))
 
-  same_struck : (n : Net) (w : WithinSets) → Cleared v (struck n w v)
-  same_struck n w =
+  cleared_struck : (n : Net) (w : WithinSets) → Cleared v (struck n w v)
+  cleared_struck n w =
       let r = report_of UnwantedToken (current v) (expects n w v) in
       let one = same_reported r v ends in
       cleared_ended v (pass (reported r v)) (same_on v (reported r v) _ one (same_pass (reported r v) (onward_ends v.shown (reported r v).shown ends one.onward)))
@@ -52,12 +52,12 @@ module _ (v : View) (ends : EndsInEof v.shown) (numbered : Numbered v.shown) whe
       cond_both fits (takes (ended v)) (repairs n w v) (Matches v)
       (λ e. taken (ended v) (cleared_ended v v still_same))
       (λ e. cond_both (is_extra n w v) (takes (struck n w v)) _ (Matches v)
-      (λ e. taken (struck n w v) (same_struck n w))
+      (λ e. taken (struck n w v) (cleared_struck n w))
       (λ e. cond_both (is_missing n w v) (does (inserted n w v) (Token (made_up n w v))) (mismatches _ v) (Matches v)
       (λ e. inr (same_inserted n w, refl))
       (λ e. inr (record { standing = refl; last = refl; marks = refl; onward = still_same.onward }, refl))))
 
--- Where nothing may come and the current token may not, EOF is not expected after it either.
+-- a type is not expected where neither it nor EPSILON is in the state's own set
 joined_here : (w : WithinSets) (s : ℕ) (ss : List ℕ) (x : ℤ) → w s x ≡ false → w s epsilon ≡ false → joined w (s ∷ ss) x ≡ false
 joined_here w s ss x e f = rw (e, f) (at (not (int_eq x epsilon)))
   where
@@ -98,7 +98,7 @@ module _ (n : Net) (w : WithinSets) (v : View) (ends : EndsInEof v.shown) (rises
   acted : (c : Choice) → choice_here n v ≡ c → may_come w v ≡ false → may_be_nothing w v ≡ false → Syncs n v (acts c n w v)
   acted Begins is come nothing =
       cond_both (is_extra n w v) (does (struck n w v) Done) (mismatches (mismatch_at (own_pair v) v) v) (Syncs n v)
-      (λ e. inl (record { cleared = same_struck v ends numbered n w; accepted = refl; begins = rw is refl; moves = struck_moves (not_eof come nothing e) }))
+      (λ e. inl (record { cleared = cleared_struck v ends numbered n w; accepted = refl; begins = rw is refl; moves = struck_moves (not_eof come nothing e) }))
       (λ e. in_place _ (record { standing = refl; last = refl; marks = refl; onward = (still_same v ends numbered).onward }) refl)
   acted GoesBack is come nothing =
       let r = report_of UnwantedToken (current v) (expects n w v) in

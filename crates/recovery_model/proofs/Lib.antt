@@ -3,3 +3,5 @@ pub mod Moves
 pub mod Doing
 pub mod Fitting
 pub mod Telling
+pub mod Searching
+pub mod Ending

@@ -1,11 +1,11 @@
 -- The notes tell what the history says, call by call.
-use Rattle.std.proofs.Common.{◌≡◌, ℕ, zero, suc, ◌<◌, ◌≤◌, Bool, true, false, not, ◌&&◌, ◌==◌, nat_lt, ◌⊎◌, List, [], ◌∷◌, ◌++◌, length, map, reverse, ℤ, Option, Some, None, sym, refl, ap, ◌∙◌, append_assoc, subst, ap₂, inl, inr, arith, if◌then◌else◌, unwrap_or, All, slice_index_or, slice_set}
+use Rattle.std.proofs.Common.{◌≡◌, ℕ, zero, suc, ◌<◌, Bool, true, false, not, ◌&&◌, ◌==◌, nat_lt, ◌⊎◌, List, [], ◌∷◌, ◌++◌, length, map, reverse, ℤ, Option, Some, None, sym, refl, ap, ◌∙◌, append_assoc, subst, ap₂, inl, inr, arith, if◌then◌else◌, unwrap_or, All, slice_index_or, slice_set}
 use Rattle.std.proofs.lemmas.Bool.{cond_both, cond-true, cond-false, or_parts, and_from, and_right, not-false, eq-eqb, ne_eqb, cases_eq, ltb-true}
 use Rattle.std.proofs.lemmas.List.{get_or-replicate, length-replicate, get_or-set_same, get_or-set_other, length-set, reverse-append}
 use Rattle.std.proofs.lemmas.Option.{none-some}
 use Rattle.errors.specs.declared.denial.Denial.{Denial}
 use Rattle.errors.specs.declared.denial.Denial.TheVariants.{OutsideLimits, StateOutside, NoRuleOpen, WrongRule, TooManyRules}
-use Rattle.atn_graph.specs.Net.{Net, size, rule_at}
+use Rattle.atn_graph.specs.Net.{Net, size}
 use Rattle.token.specs.Tokens.{Fields}
 use Rattle.token_stream.specs.Tapes.{EndsInEof}
 use Rattle.token_stream.specs.Streams.{Shows}
@@ -35,7 +35,7 @@ abbrev pub told : Call → View → Outcome → Happened
 told c v o = record { call = c; answer = o.answer; before = place v; after = place o.view }
 
 -- either the call is denied, or it is accepted and does its work
-by_step : (P : Outcome → Type 0) (n : Net) (w : WithinSets) (c : Call) (v : View) → ((d : Denial) → P (does v (Denied d))) → (denial n w c v ≡ None → P (accepted n w c v)) → P (step n w c v)
+pub by_step : (P : Outcome → Type 0) (n : Net) (w : WithinSets) (c : Call) (v : View) → ((d : Denial) → P (does v (Denied d))) → (denial n w c v ≡ None → P (accepted n w c v)) → P (step n w c v)
 by_step P n w c v denied does_it = at (denial n w c v) refl
   where
     at : (o : Option Denial) → denial n w c v ≡ o → P (step n w c v)
@@ -76,7 +76,7 @@ module _ (tape first : List Fields) (shows : Shows tape first) (n : Net) (fit : 
   numbered : Numbered first
   numbered k l = (shows.named k l).index
 
-  onward : (h : List Happened) (v : View) → Tells n first h v → Onward first v.shown
+  pub onward : (h : List Happened) (v : View) → Tells n first h v → Onward first v.shown
   onward h v t = onward_by t.dropped v.shown first t.dropped_then_shown t.some
 
   -- what is shown, wherever the tokens were dropped to
@@ -137,7 +137,7 @@ module _ (tape first : List Fields) (shows : Shows tape first) (n : Net) (fit : 
           some = l.some;
         }
 
-    ends : EndsInEof v.shown
+    pub ends : EndsInEof v.shown
     ends = onward_ends first v.shown shows.ends (onward h v t)
 
     rises : Rises v.shown
@@ -222,7 +222,7 @@ module _ (tape first : List Fields) (shows : Shows tape first) (n : Net) (fit : 
         at None e = subst (Same v) (sym (reports_none n w k v e)) (cond_both (k == 2) v _ (Same v) (λ f. same_self v ends) (λ f. same_reported (of_kind k v) v ends))
         at (Some m) e = subst (Same v) (sym (reports_kept n w k v m e)) (cond_both (k == 2) (reported (expected_at n w m) v) _ (Same v) (λ f. same_reported (expected_at n w m) v ends) (λ f. same_reported (of_kind k v) v ends))
 
-    same_unstuck : Same v (unstuck v)
+    pub same_unstuck : Same v (unstuck v)
     same_unstuck = cond_both (repeats v) (pass v) v (Same v) (λ e. same_pass v ends) (λ e. same_self v ends)
 
     -- from where it searches
