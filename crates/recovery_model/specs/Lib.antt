@@ -9,4 +9,5 @@ pub mod Denials
 pub mod Steps
 pub mod Journals
 pub mod Histories
+pub mod Notes
 pub mod Law

@@ -1,0 +1,330 @@
+-- The notes tell what the history says, call by call.
+use Rattle.std.proofs.Common.{◌≡◌, ℕ, zero, suc, ◌<◌, Bool, true, false, not, ◌&&◌, ◌==◌, nat_lt, ◌⊎◌, List, [], ◌∷◌, ◌++◌, length, map, reverse, ℤ, Option, Some, None, sym, refl, ap, ◌∙◌, append_assoc, subst, ap₂, inl, inr, arith, if◌then◌else◌, unwrap_or, All, slice_index_or, slice_set}
+use Rattle.std.proofs.lemmas.Bool.{cond_both, cond-true, cond-false, or_parts, and_from, and_right, not-false, eq-eqb, ne_eqb, cases_eq, ltb-true}
+use Rattle.std.proofs.lemmas.List.{get_or-replicate, length-replicate, get_or-set_same, get_or-set_other, length-set, reverse-append}
+use Rattle.std.proofs.lemmas.Option.{none-some}
+use Rattle.errors.specs.declared.denial.Denial.{Denial}
+use Rattle.errors.specs.declared.denial.Denial.TheVariants.{OutsideLimits, StateOutside, NoRuleOpen, WrongRule, TooManyRules}
+use Rattle.atn_graph.specs.Net.{Net, size}
+use Rattle.token.specs.Tokens.{Fields}
+use Rattle.token_stream.specs.Tapes.{EndsInEof}
+use Rattle.token_stream.specs.Streams.{Shows}
+use Rattle.records.specs.declared.report.Report.{Report as ReportRecord}
+use Rattle.records.specs.declared.report.ReportKind.TheVariants.{NoViableAlternative, FailedPredicate}
+use Rattle.recovery_model.specs.declared.call.Call.{Call}
+use Rattle.recovery_model.specs.declared.call.Call.TheVariants.{State, Enter, Leave, Match, Wildcard, Sync, Report, Recover}
+use Rattle.recovery_model.specs.declared.open_rule.OpenRule.{OpenRule}
+use Rattle.recovery_model.specs.Calls.{Said, Kept, Denied, Done, Left as LeftAnswer, Token, Mismatch}
+use Rattle.recovery_model.specs.Sets.{WithinSets, no_types}
+use Rattle.recovery_model.specs.Views.{View, current, place, here, nothing_noted}
+use Rattle.recovery_model.specs.Passing.{pass, reported, report_of, pass_many}
+use Rattle.recovery_model.specs.Repairs.{Outcome, does, matches, matches_any}
+use Rattle.recovery_model.specs.Recovering.{repeats, unstuck, searching, search_length, recovers}
+use Rattle.recovery_model.specs.Denials.{denial, first_fault, is_elsewhere, none_open, is_called}
+use Rattle.recovery_model.specs.Steps.{left, reports, expected_at, accepted, step}
+use Rattle.recovery_model.specs.Journals.{Happened, happens, run, journal}
+use Rattle.recovery_model.specs.Histories.{is_accepted, is_of_the_tape, begins_choice, moved, standing, present, shown_from, next_place, ends_repair, is_recover, recovered_in, latest_search, skips, searched_from}
+use Rattle.recovery_model.specs.Notes.{stands, Inside, Tells}
+use Rattle.recovery_model.proofs.Fitting.{Fit}
+use Rattle.recovery_model.proofs.Shown.{Rises, Numbered, Onward, onward_by, onward_ends, onward_rises, onward_numbered, onward_more, onward_from, onward_next}
+use Rattle.recovery_model.proofs.Moves.{Same, Cleared, same_self, same_pass, same_many, same_reported}
+use Rattle.recovery_model.proofs.Doing.{Matches, matched_so, Syncs, syncs_so}
+
+-- the event of a call and what it did
+abbrev pub told : Call → View → Outcome → Happened
+told c v o = record { call = c; answer = o.answer; before = place v; after = place o.view }
+
+-- either the call is denied, or it is accepted and does its work
+pub by_step : (P : Outcome → Type 0) (n : Net) (w : WithinSets) (c : Call) (v : View) → ((d : Denial) → P (does v (Denied d))) → (denial n w c v ≡ None → P (accepted n w c v)) → P (step n w c v)
+by_step P n w c v denied does_it = at (denial n w c v) refl
+  where
+    at : (o : Option Denial) → denial n w c v ≡ o → P (step n w c v)
+    at None e = rw e (does_it e)
+    at (Some d) e = rw e (denied d)
+
+-- no fault fits
+no_first : (f : Denial × Bool) (fs : List (Denial × Bool)) → first_fault (f ∷ fs) ≡ None → (f.1 ≡ false) × (first_fault fs ≡ None)
+no_first f fs = at (f.1) refl
+  where
+    at : (b : Bool) → f.1 ≡ b → first_fault (f ∷ fs) ≡ None → (f.1 ≡ false) × (first_fault fs ≡ None)
+    at true e none = absurd (none-some f.0 (sym none ∙ cond-true f.1 (Some f.0) (first_fault fs) e))
+    at false e none = (e, sym (cond-false f.1 (Some f.0) (first_fault fs) e) ∙ none)
+
+-- what a call does, by what the view holds
+left_none : (v : View) → v.open_rules ≡ [] → left v ≡ does v Done
+left_none v e = rw e refl
+
+left_one : (v : View) (o : OpenRule) (os : List OpenRule) → v.open_rules ≡ o ∷ os → left v ≡ does (record v { state = o.invoking; open_rules = os }) (LeftAnswer o.leaves)
+left_one v o os e = rw e refl
+
+abbrev of_kind : ℕ → View → ReportRecord
+of_kind k v = report_of (if k == 1 then NoViableAlternative else FailedPredicate) (current v) no_types
+
+reports_none : (n : Net) (w : WithinSets) (k : ℕ) (v : View) → v.kept ≡ None → reports n w k v ≡ (if k == 2 then v else reported (of_kind k v) v)
+reports_none n w k v e = rw e refl
+
+reports_kept : (n : Net) (w : WithinSets) (k : ℕ) (v : View) (m : Kept) → v.kept ≡ Some m → reports n w k v ≡ (if k == 2 then reported (expected_at n w m) v else reported (of_kind k v) v)
+reports_kept n w k v m e = rw e refl
+
+never : (v : View) → v.noted.last ≡ None → repeats v ≡ false
+never v e = rw e refl
+
+repeats_at : (v : View) (p : ℕ) → v.noted.last ≡ Some p → repeats v ≡ (p == place v && slice_index_or v.noted.marks (here v) false)
+repeats_at v p e = rw e refl
+
+module _ (tape first : List Fields) (shows : Shows tape first) (n : Net) (fit : Fit n) where
+  numbered : Numbered first
+  numbered k l = (shows.named k l).index
+
+  pub onward : (h : List Happened) (v : View) → Tells n first h v → Onward first v.shown
+  onward h v t = onward_by t.dropped v.shown first t.dropped_then_shown t.some
+
+  -- what is shown, wherever the tokens were dropped to
+  record Left (v : View) : Type 0 where
+    shown : v.shown ≡ shown_from (place v) first
+    dropped : List Fields
+    dropped_then_shown : first ≡ dropped ++ v.shown
+    some : 0 < length v.shown
+
+  left_by : (v : View) → Onward first v.shown → Left v
+  left_by v o = record { shown = onward_from first v.shown shows.rises o; dropped = o.dropped; dropped_then_shown = o.parts; some = o.some }
+
+  module _ (h : List Happened) (v : View) (t : Tells n first h v) where
+    -- The notes are kept, as the history's words are.
+    tells_same : (e : Happened) (u : View) → Same v u → ends_repair n h e ≡ false → is_recover e ≡ false → standing n (e ∷ h) ≡ standing n h → Tells n first (e ∷ h) u
+    tells_same e u s ends rec stand =
+        let l = left_by u (onward_more first v.shown u.shown (onward h v t) s.onward) in
+        record {
+          standing = s.standing ∙ t.standing ∙ sym stand;
+          inside = subst (Inside n) (sym s.standing) t.inside;
+          last = s.last ∙ t.last ∙ sym (rw (ends, rec) refl);
+          long = ap length s.marks ∙ t.long;
+          marks = λ k b. ap (λ ms. slice_index_or ms k false) s.marks ∙ t.marks k b ∙ sym (rw (ends, rec) refl);
+          shown = l.shown;
+          dropped = l.dropped;
+          dropped_then_shown = l.dropped_then_shown;
+          some = l.some;
+        }
+
+    tells_cleared : (e : Happened) (u : View) → Cleared v u → ends_repair n h e ≡ true → standing n (e ∷ h) ≡ standing n h → Tells n first (e ∷ h) u
+    tells_cleared e u s ends stand =
+        let l = left_by u (onward_more first v.shown u.shown (onward h v t) s.onward) in
+        record {
+          standing = s.standing ∙ t.standing ∙ sym stand;
+          inside = subst (Inside n) (sym s.standing) t.inside;
+          last = s.last ∙ sym (rw ends refl);
+          long = ap length s.marks ∙ length-replicate 512 false;
+          marks = λ k b. ap (λ ms. slice_index_or ms k false) s.marks ∙ get_or-replicate 512 k false false b ∙ sym (rw ends refl);
+          shown = l.shown;
+          dropped = l.dropped;
+          dropped_then_shown = l.dropped_then_shown;
+          some = l.some;
+        }
+
+    -- The parser moves, and notes nothing.
+    tells_moved : (e : Happened) (u : View) → stands u ≡ standing n (e ∷ h) → Inside n (stands u) → u.noted ≡ v.noted → u.shown ≡ v.shown → ends_repair n h e ≡ false → is_recover e ≡ false → Tells n first (e ∷ h) u
+    tells_moved e u stand inside noted shown ends rec =
+        let l = left_by u (subst (Onward first) (sym shown) (onward h v t)) in
+        record {
+          standing = stand;
+          inside = inside;
+          last = ap (λ m. m.last) noted ∙ t.last ∙ sym (rw (ends, rec) refl);
+          long = ap (λ m. length m.marks) noted ∙ t.long;
+          marks = λ k b. ap (λ m. slice_index_or m.marks k false) noted ∙ t.marks k b ∙ sym (rw (ends, rec) refl);
+          shown = l.shown;
+          dropped = l.dropped;
+          dropped_then_shown = l.dropped_then_shown;
+          some = l.some;
+        }
+
+    pub ends : EndsInEof v.shown
+    ends = onward_ends first v.shown shows.ends (onward h v t)
+
+    rises : Rises v.shown
+    rises = onward_rises first v.shown shows.rises (onward h v t)
+
+    own_indexes : Numbered v.shown
+    own_indexes = onward_numbered first v.shown numbered (onward h v t)
+
+    abbrev Told : Call → Outcome → Type 0
+    Told c o = Tells n first (told c v o ∷ h) o.view
+
+    at_state : (s : ℕ) (w : WithinSets) → denial n w (State s) v ≡ None → Told (State s) (accepted n w (State s) v)
+    at_state s w none =
+        let rest = (StateOutside, is_elsewhere n s v) ∷ [] in
+        let f = no_first (StateOutside, is_elsewhere n s v) [] (no_first (NoRuleOpen, none_open v) rest none).1 in
+        let here : nat_lt s (size n) ≡ true = not-false _ (or_parts _ _ (or_parts _ _ f.0).0).0 in
+        tells_moved _ _ (ap (moved n (State s)) t.standing) (record { state = ltb-true s (size n) here; invoking = t.inside.invoking }) refl refl refl refl
+
+    at_enter : (r : ℕ) (w : WithinSets) → denial n w (Enter r) v ≡ None → Told (Enter r) (accepted n w (Enter r) v)
+    at_enter r w none =
+        let f = no_first (OutsideLimits, not (nat_lt r (length n.rules))) ((WrongRule, not (none_open v) && not (is_called n r v)) ∷ (TooManyRules, length v.open_rules == 64) ∷ []) none in
+        let inside : nat_lt r (length n.rules) ≡ true = not-false _ f.0 in
+        tells_moved _ _ (ap (moved n (Enter r)) t.standing) (record { state = fit.starts r (ltb-true r (length n.rules) inside); invoking = more }) refl refl refl refl
+      where
+        more : All (λ i. unwrap_or i 0 < size n) (v.state ∷ map (λ o. o.invoking) v.open_rules)
+        more zero d l = t.inside.state
+        more (suc k) d l = t.inside.invoking k d (omega arith)
+
+    at_leave : Told Leave (left v)
+    at_leave = at v.open_rules refl
+      where
+        P : Option ℕ → Type 0
+        P i = unwrap_or i 0 < size n
+
+        at : (os : List OpenRule) → v.open_rules ≡ os → Told Leave (left v)
+        at [] e =
+            let none : moved n Leave (stands v) ≡ stands v = rw e refl in
+            subst (Told Leave) (sym (left_none v e)) (tells_same _ v (same_self v ends) refl refl (ap (moved n Leave) (sym t.standing) ∙ none ∙ t.standing))
+        at (o ∷ os) e =
+            let u = record v { state = o.invoking; open_rules = os } in
+            let back : stands u ≡ moved n Leave (stands v) = rw e refl in
+            let all : All (λ i. unwrap_or i 0 < size n) (map (λ o. o.invoking) (o ∷ os)) = subst (λ rs. All (λ i. unwrap_or i 0 < size n) (map (λ o. o.invoking) rs)) e t.inside.invoking in
+            subst (Told Leave) (sym (left_one v o os e)) (tells_moved _ u (back ∙ ap (moved n Leave) t.standing) (record { state = all 0 None (omega arith); invoking = λ k d l. all (suc k) d (omega arith) }) refl refl refl refl)
+
+    -- a call that moves nothing
+    unmoved : (a : Said) → (if is_accepted a then standing n h else standing n h) ≡ standing n h
+    unmoved a = elim (is_accepted a) as (λ b. (if b then standing n h else standing n h) ≡ standing n h) [ true ↦ refl | false ↦ refl ]
+
+    no_recover : (a : Said) → (is_accepted a && false) ≡ false
+    no_recover a = and_right (is_accepted a) false refl
+
+    accepts : (a : Said) → is_of_the_tape a ≡ true → is_accepted a ≡ true
+    accepts Done e = refl
+    accepts (LeftAnswer k) e = refl
+    accepts (Token tok) e = refl
+    accepts (Mismatch m) e = refl
+    accepts (Denied d) e = e
+
+    at_match : (ty : ℤ) (o : Outcome) → Matches v o → Told (Match ty) o
+    at_match ty o (inl (c, e)) = tells_cleared _ o.view c (and_from _ _ (accepts o.answer e) e) (unmoved o.answer)
+    at_match ty o (inr (c, e)) = tells_same _ o.view c (and_right _ _ e) (no_recover o.answer) (unmoved o.answer)
+
+    at_wildcard : (o : Outcome) → Matches v o → Told Wildcard o
+    at_wildcard o (inl (c, e)) = tells_cleared _ o.view c (and_from _ _ (accepts o.answer e) e) (unmoved o.answer)
+    at_wildcard o (inr (c, e)) = tells_same _ o.view c (and_right _ _ e) (no_recover o.answer) (unmoved o.answer)
+
+    is_present : here v ≡ present n h
+    is_present = ap (λ p. unwrap_or p.state 0) t.standing
+
+    at_sync : (o : Outcome) → Syncs n v o → Told Sync o
+    at_sync o (inl c) =
+        let begins : begins_choice n (present n h) ≡ true = subst (λ s. begins_choice n s ≡ true) is_present c.begins in
+        tells_cleared _ o.view c.cleared (and_from _ _ c.accepted (and_from _ _ begins (ap not (ne_eqb _ _ c.moves)))) (unmoved o.answer)
+    at_sync o (inr s) =
+        let none : (begins_choice n (present n h) && not (place o.view == place v)) ≡ false = subst (λ p. (begins_choice n p && not (place o.view == place v)) ≡ false) is_present s.ends_nothing in
+        tells_same _ o.view s.same (and_right _ _ none) (no_recover o.answer) (unmoved o.answer)
+
+    at_report : (k : ℕ) (w : WithinSets) → Told (Report k) (does (reports n w k v) Done)
+    at_report k w = tells_same _ _ (at v.kept refl) refl refl refl
+      where
+        at : (m : Option Kept) → v.kept ≡ m → Same v (reports n w k v)
+        at None e = subst (Same v) (sym (reports_none n w k v e)) (cond_both (k == 2) v _ (Same v) (λ f. same_self v ends) (λ f. same_reported (of_kind k v) v ends))
+        at (Some m) e = subst (Same v) (sym (reports_kept n w k v m e)) (cond_both (k == 2) (reported (expected_at n w m) v) _ (Same v) (λ f. same_reported (expected_at n w m) v ends) (λ f. same_reported (of_kind k v) v ends))
+
+    pub same_unstuck : Same v (unstuck v)
+    same_unstuck = cond_both (repeats v) (pass v) v (Same v) (λ e. same_pass v ends) (λ e. same_self v ends)
+
+    -- from where it searches
+    place_if : (b : Bool) → place (if b then pass v else v) ≡ (if b then next_place first (place v) else place v)
+    place_if true = sym (onward_next first v.shown shows.rises (onward h v t))
+    place_if false = refl
+
+    few : here v < 512
+    few = omega (arith, t.inside.state, fit.few)
+
+    at_mark : (s : ℕ) → s < 512 → (present n h ≡ s) ⊎ (present n h ≡ s → ⊥) → slice_index_or (slice_set v.noted.marks (here v) true) s false ≡ (if present n h == s then true else recovered_in n h s)
+    at_mark s b (inl e) =
+        ap (λ i. slice_index_or (slice_set v.noted.marks i true) s false) (is_present ∙ e)
+        ∙ get_or-set_same v.noted.marks s true false (omega (arith, t.long))
+        ∙ sym (cond-true (present n h == s) _ _ (eq-eqb (present n h) s e))
+    at_mark s b (inr ne) =
+        get_or-set_other v.noted.marks (here v) s true false (λ e. ne (sym (e ∙ is_present)))
+        ∙ t.marks s b
+        ∙ sym (cond-false (present n h == s) _ _ (ne_eqb (present n h) s ne))
+
+    mark : (s : ℕ) → s < 512 → slice_index_or (slice_set (unstuck v).noted.marks (here (unstuck v)) true) s false ≡ (if present n h == s then true else recovered_in n h s)
+    mark s b =
+        ap₂ (λ ms i. slice_index_or (slice_set ms i true) s false) same_unstuck.marks (ap (λ p. unwrap_or p.state 0) same_unstuck.standing)
+        ∙ at_mark s b (cases_eq (present n h) s)
+
+    -- the guard skips exactly if the history says so
+    again : (p : ℕ) → latest_search n first h ≡ Some p → repeats v ≡ (p == place v && recovered_in n h (present n h))
+    again p e = repeats_at v p (t.last ∙ e) ∙ ap (λ b. p == place v && b) (t.marks (here v) few ∙ ap (recovered_in n h) is_present)
+
+    skipped : (o : Outcome) → repeats v ≡ skips n first h (told Recover v o)
+    skipped o = at (latest_search n first h) refl
+      where
+        at : (l : Option ℕ) → latest_search n first h ≡ l → repeats v ≡ skips n first h (told Recover v o)
+        at None e = never v (t.last ∙ e) ∙ sym (rw e refl)
+        at (Some p) e = again p e ∙ sym (rw e refl)
+
+    pub searches_from : (o : Outcome) → place (unstuck v) ≡ searched_from n first h (told Recover v o)
+    searches_from o = ap (λ b. place (if b then pass v else v)) (skipped o) ∙ place_if (skips n first h (told Recover v o))
+
+    at_recover : (w : WithinSets) → Told Recover (recovers n w v)
+    at_recover w = record {
+      standing = after.standing ∙ same_unstuck.standing ∙ t.standing;
+      inside = subst (Inside n) (sym (after.standing ∙ same_unstuck.standing)) t.inside;
+      last = after.last ∙ ap Some (searches_from (recovers n w v)) ∙ said (latest_search n first h) refl;
+      long = ap length after.marks ∙ length-set (unstuck v).noted.marks (here (unstuck v)) true ∙ ap length same_unstuck.marks ∙ t.long;
+      marks = λ s b. ap (λ ms. slice_index_or ms s false) after.marks ∙ mark s b;
+      shown = now.shown;
+      dropped = now.dropped;
+      dropped_then_shown = now.dropped_then_shown;
+      some = now.some;
+    }
+      where
+        u : View
+        u = searching (unstuck v)
+
+        e : Happened
+        e = told Recover v (recovers n w v)
+
+        after : Same u (pass_many (search_length n w u) u)
+        after = same_many (search_length n w u) u (onward_ends v.shown (unstuck v).shown ends same_unstuck.onward)
+
+        now : Left (recovers n w v).view
+        now = left_by (recovers n w v).view (onward_more first v.shown _ (onward h v t) (onward_more v.shown u.shown _ same_unstuck.onward after.onward))
+
+        said : (l : Option ℕ) → latest_search n first h ≡ l → Some (searched_from n first h e) ≡ latest_search n first (e ∷ h)
+        said None l = rw l refl
+        said (Some p) l = rw l refl
+
+    at_call : (c : Call) (w : WithinSets) → denial n w c v ≡ None → Told c (accepted n w c v)
+    at_call (State s) w none = at_state s w none
+    at_call (Enter r) w none = at_enter r w none
+    at_call Leave w none = at_leave
+    at_call (Match ty) w none = at_match ty _ (matched_so v ends own_indexes (matches ty v) n w)
+    at_call Wildcard w none = at_wildcard _ (matched_so v ends own_indexes (matches_any v) n w)
+    at_call Sync w none = at_sync _ (syncs_so n w v ends rises own_indexes)
+    at_call (Report k) w none = at_report k w
+    at_call Recover w none = at_recover w
+
+    pub tells_step : (w : WithinSets) (c : Call) → Tells n first (happens n w c v ∷ h) (step n w c v).view
+    tells_step w c = by_step (Told c) n w c v (λ d. tells_same _ v (same_self v ends) refl refl refl) (at_call c w)
+
+  -- and so it is after any calls
+  pub tells_run : (w : WithinSets) (cs : List Call) (h : List Happened) (v : View) → Tells n first h v → Tells n first (reverse (journal n w cs v) ++ h) (run n w cs v)
+  tells_run w [] h v t = t
+  tells_run w (c ∷ cs) h v t =
+      let now = happens n w c v in
+      let js = journal n w cs (step n w c v).view in
+      let order : reverse (now ∷ js) ++ h ≡ reverse js ++ now ∷ h = ap (λ xs. xs ++ h) (reverse-append (now ∷ []) js) ∙ append_assoc (reverse js) (now ∷ []) h in
+      subst (λ xs. Tells n first xs (run n w cs (step n w c v).view)) (sym order) (tells_run w cs (now ∷ h) (step n w c v).view (tells_step h v t w c))
+
+  pub tells_none : (v : View) → v.state ≡ None → v.open_rules ≡ [] → v.noted ≡ nothing_noted → v.shown ≡ first → Tells n first [] v
+  tells_none v state none noted shown =
+      let l = left_by v (onward_by [] v.shown first (sym shown) (subst (λ ts. 0 < length ts) (sym shown) shows.ends.some)) in
+      let stand : stands v ≡ standing n [] = ap₂ (λ s os. record { state = s; invoking = map (λ o. o.invoking) os }) state none in
+      record {
+        standing = stand;
+        inside = subst (Inside n) (sym stand) (record { state = fit.some; invoking = λ k d m. absurd (omega arith) });
+        last = ap (λ m. m.last) noted;
+        long = ap (λ m. length m.marks) noted ∙ length-replicate 512 false;
+        marks = λ s b. ap (λ m. slice_index_or m.marks s false) noted ∙ get_or-replicate 512 s false false b;
+        shown = l.shown;
+        dropped = l.dropped;
+        dropped_then_shown = l.dropped_then_shown;
+        some = l.some;
+      }
