@@ -11,3 +11,4 @@ pub mod Journals
 pub mod Histories
 pub mod Notes
 pub mod Law
+pub mod TapeLaw

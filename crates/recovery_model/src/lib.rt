@@ -4,6 +4,7 @@
 pub mod answer;
 pub mod call;
 pub mod event;
+pub mod law;
 pub mod notes;
 pub mod open_rule;
 pub mod token_fields;

@@ -1,0 +1,34 @@
+-- The theorems: every list of calls of a new parser keeps the tape law, and the notes are what the law's words say.
+use Rattle.std.specs.Prelude.{◌≡◌, List, [], reverse, None}
+use Rattle.atn.specs.declared.atn.Atn.{Atn}
+use Rattle.atn.specs.Checked.{net_of}
+use Rattle.token.specs.Tokens.{Fields}
+use Rattle.token_stream.specs.Streams.{Shows}
+use Rattle.recovery_model.specs.declared.call.Call.{Call}
+use Rattle.recovery_model.specs.Sets.{WithinSets, Agree}
+use Rattle.recovery_model.specs.Views.{View, nothing_noted}
+use Rattle.recovery_model.specs.Journals.{run, journal}
+use Rattle.recovery_model.specs.Law.{Law}
+use Rattle.recovery_model.specs.Notes.{Tells}
+
+-- a parser that was just made, over a stream that shows these tokens of its tape: any leaves, free places and reports may be
+-- there already
+pub record New (v : View) : Type 0 where
+  pub state : v.state ≡ None
+  pub none_open : v.open_rules ≡ []
+  pub noted : v.noted ≡ nothing_noted
+  pub kept : v.kept ≡ None
+  pub shows : Shows v.tape v.shown
+
+-- The tape law, for every checked net, every sets that are the net's by walks, every new parser and every list of calls,
+-- denied ones too.
+abbrev pub TapeLaw : Type 0
+TapeLaw =
+    (a : Atn) (w : WithinSets) → Agree (net_of a) w → (v : View) → New v → (cs : List Call) →
+    Law (net_of a) v.shown v.leaves (journal (net_of a) w cs v) (run (net_of a) w cs v).shown (run (net_of a) w cs v).leaves
+
+-- The second theorem: place, marks, state and open rules follow from the calls, whatever the sets.
+abbrev pub NotesTell : Type 0
+NotesTell =
+    (a : Atn) (w : WithinSets) (v : View) → New v → (cs : List Call) →
+    Tells (net_of a) v.shown (reverse (journal (net_of a) w cs v)) (run (net_of a) w cs v)
