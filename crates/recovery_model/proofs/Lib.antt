@@ -5,3 +5,5 @@ pub mod Fitting
 pub mod Telling
 pub mod Searching
 pub mod Ending
+pub mod Leaves
+pub mod Keeping

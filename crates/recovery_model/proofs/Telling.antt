@@ -51,19 +51,19 @@ no_first f fs = at (f.1) refl
     at false e none = (e, sym (cond-false f.1 (Some f.0) (first_fault fs) e) ∙ none)
 
 -- what a call does, by what the view holds
-left_none : (v : View) → v.open_rules ≡ [] → left v ≡ does v Done
+pub left_none : (v : View) → v.open_rules ≡ [] → left v ≡ does v Done
 left_none v e = rw e refl
 
-left_one : (v : View) (o : OpenRule) (os : List OpenRule) → v.open_rules ≡ o ∷ os → left v ≡ does (record v { state = o.invoking; open_rules = os }) (LeftAnswer o.leaves)
+pub left_one : (v : View) (o : OpenRule) (os : List OpenRule) → v.open_rules ≡ o ∷ os → left v ≡ does (record v { state = o.invoking; open_rules = os }) (LeftAnswer o.leaves)
 left_one v o os e = rw e refl
 
-abbrev of_kind : ℕ → View → ReportRecord
+abbrev pub of_kind : ℕ → View → ReportRecord
 of_kind k v = report_of (if k == 1 then NoViableAlternative else FailedPredicate) (current v) no_types
 
-reports_none : (n : Net) (w : WithinSets) (k : ℕ) (v : View) → v.kept ≡ None → reports n w k v ≡ (if k == 2 then v else reported (of_kind k v) v)
+pub reports_none : (n : Net) (w : WithinSets) (k : ℕ) (v : View) → v.kept ≡ None → reports n w k v ≡ (if k == 2 then v else reported (of_kind k v) v)
 reports_none n w k v e = rw e refl
 
-reports_kept : (n : Net) (w : WithinSets) (k : ℕ) (v : View) (m : Kept) → v.kept ≡ Some m → reports n w k v ≡ (if k == 2 then reported (expected_at n w m) v else reported (of_kind k v) v)
+pub reports_kept : (n : Net) (w : WithinSets) (k : ℕ) (v : View) (m : Kept) → v.kept ≡ Some m → reports n w k v ≡ (if k == 2 then reported (expected_at n w m) v else reported (of_kind k v) v)
 reports_kept n w k v m e = rw e refl
 
 never : (v : View) → v.noted.last ≡ None → repeats v ≡ false

@@ -1,0 +1,204 @@
+-- Which leaves are added: those of the tokens that are dropped, beside leaves of EOF and of made-up tokens.
+use Rattle.std.proofs.Common.{◌≡◌, ℕ, zero, suc, ◌+◌, Bool, true, false, not, ◌==◌, ◌⊎◌, List, [], ◌∷◌, ◌++◌, length, map, filter, Option, Some, None, sym, refl, ap, ◌∙◌, append_assoc, subst, ap₂, inl, inr, arith}
+use Rattle.std.proofs.lemmas.Bool.{cond_both, cond-true, cond-false, cases_Bool, and_right}
+use Rattle.std.proofs.lemmas.List.{append-nil, map-append, length-append, get_or-append-add}
+use Rattle.std.proofs.lemmas.List.Elements.{filter-append}
+use Rattle.atn_graph.specs.Net.{Net}
+use Rattle.records.specs.declared.leaf.LeafKind.{LeafKind}
+use Rattle.records.specs.declared.leaf.LeafKind.TheVariants.{Error}
+use Rattle.records.specs.declared.report.Report.{Report as ReportRecord}
+use Rattle.records.specs.declared.report.ReportKind.TheVariants.{UnwantedToken, MissingToken}
+use Rattle.records.specs.Leaves.{Said as Leaf}
+use Rattle.token.specs.Tokens.{Fields, is_eof, own}
+use Rattle.token_stream.specs.Tapes.{no_token, token_at}
+use Rattle.token_stream.specs.Streams.{passed}
+use Rattle.recovery_model.specs.declared.call.Call.{Call}
+use Rattle.recovery_model.specs.declared.call.Call.TheVariants.{State, Enter, Leave, Match, Wildcard, Sync, Report, Recover}
+use Rattle.recovery_model.specs.declared.notes.Mode.{Mode}
+use Rattle.recovery_model.specs.declared.notes.Mode.TheVariants.{Settled, InRepair}
+use Rattle.recovery_model.specs.declared.open_rule.OpenRule.{OpenRule}
+use Rattle.recovery_model.specs.Calls.{Kept, Token, Done}
+use Rattle.recovery_model.specs.Sets.{WithinSets}
+use Rattle.recovery_model.specs.Views.{View, current, own_pair}
+use Rattle.recovery_model.specs.Passing.{leaf, add, pass, pass_many, before, report_of, reported, ended}
+use Rattle.recovery_model.specs.Repairs.{Outcome, does, expects, is_extra, is_missing, made_up, struck, inserted, mismatch_at, mismatches, takes, repairs, matched, matches, matches_any}
+use Rattle.recovery_model.specs.Syncs.{Choice, Begins, GoesBack, Neither, choice_here, in_repair, may_come, may_be_nothing, stops_at, acts, syncs}
+use Rattle.recovery_model.specs.Recovering.{repeats, unstuck, searching, search_length, recovers}
+use Rattle.recovery_model.specs.Steps.{left, reports, expected_at, accepted, step}
+use Rattle.recovery_model.specs.Journals.{run}
+use Rattle.recovery_model.specs.Law.{leaf_mark, token_mark, is_of_a_dropped}
+use Rattle.recovery_model.proofs.Shown.{Numbered}
+use Rattle.recovery_model.proofs.Moves.{reported_shown}
+use Rattle.recovery_model.proofs.Telling.{by_step, of_kind, left_none, left_one, reports_none, reports_kept}
+
+-- leaves were added and tokens dropped
+pub record Adds (v u : View) : Type 0 where
+  pub added : List Leaf
+  pub leaves : u.leaves ≡ v.leaves ++ added
+  pub dropped : List Fields
+  pub shown : v.shown ≡ dropped ++ u.shown
+  pub marks : map leaf_mark (filter is_of_a_dropped added) ≡ map token_mark dropped
+
+pub adds_none : (v u : View) → u.leaves ≡ v.leaves → u.shown ≡ v.shown → Adds v u
+adds_none v u leaves shown = record { added = []; leaves = leaves ∙ sym (append-nil v.leaves); dropped = []; shown = sym shown; marks = refl }
+
+pub adds_then : (v u x : View) → Adds v u → Adds u x → Adds v x
+adds_then v u x a b = record {
+  added = a.added ++ b.added;
+  leaves = b.leaves ∙ ap (λ ls. ls ++ b.added) a.leaves ∙ append_assoc v.leaves a.added b.added;
+  dropped = a.dropped ++ b.dropped;
+  shown = a.shown ∙ ap (λ ts. a.dropped ++ ts) b.shown ∙ sym (append_assoc a.dropped b.dropped x.shown);
+  marks =
+      ap (map leaf_mark) (filter-append is_of_a_dropped a.added b.added)
+      ∙ map-append leaf_mark (filter is_of_a_dropped a.added) (filter is_of_a_dropped b.added)
+      ∙ ap₂ (λ ls ks. ls ++ ks) a.marks b.marks
+      ∙ sym (map-append token_mark a.dropped b.dropped);
+}
+
+-- what is shown after it is numbered still
+numbered_after : (d ts : List Fields) → Numbered (d ++ ts) → Numbered ts
+numbered_after d ts numbered k l =
+    subst (λ t. t.index ≡ Some (own t)) (get_or-append-add d ts k no_token) (numbered (length d + k) (omega (arith, length-append d ts)))
+
+pub adds_numbered : (v u : View) → Numbered v.shown → Adds v u → Numbered u.shown
+adds_numbered v u numbered a = numbered_after a.dropped u.shown (subst Numbered a.shown numbered)
+
+-- A token that is passed is dropped, or it is EOF.
+record Drops (l : Leaf) (ts : List Fields) : Type 0 where
+  dropped : List Fields
+  shown : ts ≡ dropped ++ passed ts
+  marks : map leaf_mark (filter is_of_a_dropped (l ∷ [])) ≡ map token_mark dropped
+
+drops : (kind : LeafKind) (v : View) (ts : List Fields) → Numbered ts → Drops (leaf kind (token_at ts 0) v) ts
+drops kind v [] numbered = record { dropped = []; shown = refl; marks = refl }
+drops kind v (t ∷ ts) numbered = at (cases_Bool (is_eof t.typ))
+  where
+    at : (is_eof t.typ ≡ true) ⊎ (is_eof t.typ ≡ false) → Drops (leaf kind t v) (t ∷ ts)
+    at (inl e) = record { dropped = []; shown = sym (cond-true (is_eof t.typ) (t ∷ ts) ts e); marks = rw e refl }
+    at (inr e) = record { dropped = t ∷ []; shown = ap (λ us. t ∷ us) (sym (cond-false (is_eof t.typ) (t ∷ ts) ts e)); marks = rw (e, numbered 0 (omega arith)) refl }
+
+adds_leaf : (kind : LeafKind) (v : View) → Numbered v.shown → Adds v (record (add kind (current v) v) { shown = passed v.shown })
+adds_leaf kind v numbered =
+    let d = drops kind v v.shown numbered in
+    record { added = leaf kind (current v) v ∷ []; leaves = refl; dropped = d.dropped; shown = d.shown; marks = d.marks }
+
+pub adds_pass : (v : View) → Numbered v.shown → Adds v (pass v)
+adds_pass v numbered = adds_leaf _ v numbered
+
+pub adds_many : (k : ℕ) (v : View) → Numbered v.shown → Adds v (pass_many k v)
+adds_many zero v numbered = adds_none v v refl refl
+adds_many (suc k) v numbered =
+    let one = adds_pass v numbered in
+    adds_then v (pass v) (pass_many k (pass v)) one (adds_many k (pass v) (adds_numbered v (pass v) numbered one))
+
+-- a made-up token is of no place
+adds_made : (kind : LeafKind) (t : Fields) (v : View) → t.index ≡ None → Adds v (add kind t v)
+adds_made kind t v e = record { added = leaf kind t v ∷ []; leaves = refl; dropped = []; shown = refl; marks = ap (map leaf_mark) (cond-false (is_of_a_dropped (leaf kind t v)) (leaf kind t v ∷ []) [] none) }
+  where
+    none : is_of_a_dropped (leaf kind t v) ≡ false
+    none = rw e (and_right (not (is_eof t.typ)) false refl)
+
+reported_leaves : (r : ReportRecord) (v : View) → (reported r v).leaves ≡ v.leaves
+reported_leaves r v = at v.noted.mode refl
+  where
+    at : (m : Mode) → v.noted.mode ≡ m → (reported r v).leaves ≡ v.leaves
+    at Settled e = rw e refl
+    at InRepair e = rw e refl
+
+adds_reported : (r : ReportRecord) (v : View) → Adds v (reported r v)
+adds_reported r v = adds_none v (reported r v) (reported_leaves r v) (reported_shown r v)
+
+module _ (n : Net) (w : WithinSets) (v : View) (numbered : Numbered v.shown) where
+  adds_struck : Adds v (struck n w v)
+  adds_struck =
+      let r = report_of UnwantedToken (current v) (expects n w v) in
+      let one = adds_reported r v in
+      let two = adds_then v (reported r v) (pass (reported r v)) one (adds_pass (reported r v) (adds_numbered v (reported r v) numbered one)) in
+      adds_then v (pass (reported r v)) (struck n w v) two (adds_none (pass (reported r v)) (struck n w v) refl refl)
+
+  adds_inserted : Adds v (inserted n w v)
+  adds_inserted =
+      let r = report_of MissingToken (current v) (expects n w v) in
+      adds_then v (reported r v) (inserted n w v) (adds_reported r v) (adds_made Error (made_up n w v) (reported r v) refl)
+
+  adds_taken : (u : View) → Adds v u → Adds v (pass u)
+  adds_taken u a = adds_then v u (pass u) a (adds_pass u (adds_numbered v u numbered a))
+
+  abbrev Does : Outcome → Type 0
+  Does o = Adds v o.view
+
+  adds_matched : (fits : Bool) → Does (matched fits n w v)
+  adds_matched fits =
+      cond_both fits (takes (ended v)) (repairs n w v) Does
+      (λ e. adds_taken (ended v) (adds_none v (ended v) refl refl))
+      (λ e. cond_both (is_extra n w v) (takes (struck n w v)) _ Does
+      (λ e. adds_taken (struck n w v) adds_struck)
+      (λ e. cond_both (is_missing n w v) (does (inserted n w v) (Token (made_up n w v))) (mismatches _ v) Does
+      (λ e. adds_inserted)
+      (λ e. adds_none v _ refl refl)))
+
+  adds_acts : (c : Choice) → Does (acts c n w v)
+  adds_acts Begins =
+      cond_both (is_extra n w v) (does (struck n w v) Done) (mismatches (mismatch_at (own_pair v) v) v) Does
+      (λ e. adds_struck)
+      (λ e. adds_none v _ refl refl)
+  adds_acts GoesBack =
+      let r = report_of UnwantedToken (current v) (expects n w v) in
+      let k = before (stops_at n w v) v.shown in
+      let one = adds_reported r v in
+      adds_then v (reported r v) (pass_many k (reported r v)) one (adds_many k (reported r v) (adds_numbered v (reported r v) numbered one))
+  adds_acts Neither = adds_none v v refl refl
+
+  adds_syncs : Does (syncs n w v)
+  adds_syncs =
+      cond_both (in_repair v) (does v Done) _ Does
+      (λ e. adds_none v v refl refl)
+      (λ e. cond_both (may_come w v) (does _ Done) _ Does
+      (λ e. adds_none v _ refl refl)
+      (λ e. cond_both (may_be_nothing w v) (does _ Done) (acts (choice_here n v) n w v) Does
+      (λ e. adds_none v _ refl refl)
+      (λ e. adds_acts (choice_here n v))))
+
+  adds_unstuck : Adds v (unstuck v)
+  adds_unstuck = cond_both (repeats v) (pass v) v (Adds v) (λ e. adds_pass v numbered) (λ e. adds_none v v refl refl)
+
+  adds_recovers : Does (recovers n w v)
+  adds_recovers =
+      let u = searching (unstuck v) in
+      let a = adds_then v (unstuck v) u adds_unstuck (adds_none (unstuck v) u refl refl) in
+      adds_then v u (pass_many (search_length n w u) u) a (adds_many (search_length n w u) u (adds_numbered v u numbered a))
+
+  adds_left : Does (left v)
+  adds_left = at v.open_rules refl
+    where
+      at : (os : List OpenRule) → v.open_rules ≡ os → Does (left v)
+      at [] e = subst Does (sym (left_none v e)) (adds_none v v refl refl)
+      at (o ∷ os) e = subst Does (sym (left_one v o os e)) (adds_none v _ refl refl)
+
+  adds_reports : (k : ℕ) → Adds v (reports n w k v)
+  adds_reports k = at v.kept refl
+    where
+      at : (m : Option Kept) → v.kept ≡ m → Adds v (reports n w k v)
+      at None e = subst (Adds v) (sym (reports_none n w k v e)) (cond_both (k == 2) v _ (Adds v) (λ f. adds_none v v refl refl) (λ f. adds_reported (of_kind k v) v))
+      at (Some m) e = subst (Adds v) (sym (reports_kept n w k v m e)) (cond_both (k == 2) (reported (expected_at n w m) v) _ (Adds v) (λ f. adds_reported (expected_at n w m) v) (λ f. adds_reported (of_kind k v) v))
+
+  pub adds_step : (c : Call) → Adds v (step n w c v).view
+  adds_step c = by_step Does n w c v (λ d. adds_none v v refl refl) (λ none. at c)
+    where
+      at : (c : Call) → Does (accepted n w c v)
+      at (State s) = adds_none v _ refl refl
+      at (Enter r) = adds_none v _ refl refl
+      at Leave = adds_left
+      at (Match ty) = adds_matched (matches ty v)
+      at Wildcard = adds_matched (matches_any v)
+      at Sync = adds_syncs
+      at (Report k) = adds_reports k
+      at Recover = adds_recovers
+
+-- and so it is after any calls
+pub adds_run : (n : Net) (w : WithinSets) (cs : List Call) (v : View) → Numbered v.shown → Adds v (run n w cs v)
+adds_run n w [] v numbered = adds_none v v refl refl
+adds_run n w (c ∷ cs) v numbered =
+    let u = (step n w c v).view in
+    let one = adds_step n w v numbered c in
+    adds_then v u (run n w cs u) one (adds_run n w cs u (adds_numbered v u numbered one))
