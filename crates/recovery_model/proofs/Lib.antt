@@ -5,3 +5,4 @@ pub mod Fitting
 pub mod Telling
 pub mod Searching
 pub mod Ending
+pub mod Counting

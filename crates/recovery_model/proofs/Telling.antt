@@ -57,13 +57,13 @@ left_none v e = rw e refl
 left_one : (v : View) (o : OpenRule) (os : List OpenRule) → v.open_rules ≡ o ∷ os → left v ≡ does (record v { state = o.invoking; open_rules = os }) (LeftAnswer o.leaves)
 left_one v o os e = rw e refl
 
-abbrev of_kind : ℕ → View → ReportRecord
+abbrev pub of_kind : ℕ → View → ReportRecord
 of_kind k v = report_of (if k == 1 then NoViableAlternative else FailedPredicate) (current v) no_types
 
-reports_none : (n : Net) (w : WithinSets) (k : ℕ) (v : View) → v.kept ≡ None → reports n w k v ≡ (if k == 2 then v else reported (of_kind k v) v)
+pub reports_none : (n : Net) (w : WithinSets) (k : ℕ) (v : View) → v.kept ≡ None → reports n w k v ≡ (if k == 2 then v else reported (of_kind k v) v)
 reports_none n w k v e = rw e refl
 
-reports_kept : (n : Net) (w : WithinSets) (k : ℕ) (v : View) (m : Kept) → v.kept ≡ Some m → reports n w k v ≡ (if k == 2 then reported (expected_at n w m) v else reported (of_kind k v) v)
+pub reports_kept : (n : Net) (w : WithinSets) (k : ℕ) (v : View) (m : Kept) → v.kept ≡ Some m → reports n w k v ≡ (if k == 2 then reported (expected_at n w m) v else reported (of_kind k v) v)
 reports_kept n w k v m e = rw e refl
 
 never : (v : View) → v.noted.last ≡ None → repeats v ≡ false
