@@ -5,4 +5,6 @@ pub mod Fitting
 pub mod Telling
 pub mod Searching
 pub mod Ending
+pub mod Below
+pub mod Past
 pub mod Counting
