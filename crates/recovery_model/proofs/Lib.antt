@@ -7,3 +7,6 @@ pub mod Searching
 pub mod Ending
 pub mod Leaves
 pub mod Keeping
+pub mod Below
+pub mod Past
+pub mod Counting

@@ -1,0 +1,183 @@
+-- What ends repair passes a token, and so does a recover that the guard makes skip one.
+use Rattle.std.proofs.Common.{◌≡◌, ℕ, ◌+◌, ◌<◌, ◌≤◌, Bool, true, false, ◌&&◌, ◌||◌, ◌==◌, List, [], ◌∷◌, ◌++◌, length, Option, Some, None, sym, refl, ap, ◌∙◌, subst, inl, inr, arith}
+use Rattle.std.proofs.lemmas.Bool.{cond_both, cond-true, and_parts, both_ways, eq-eqb, not-true}
+use Rattle.std.proofs.lemmas.List.{get_or-append-add, length-append}
+use Rattle.atn_graph.specs.Net.{Net}
+use Rattle.records.specs.declared.report.ReportKind.TheVariants.{UnwantedToken}
+use Rattle.token.specs.Tokens.{Fields, is_eof, own}
+use Rattle.token_stream.specs.Tapes.{no_token, token_at, EndsInEof}
+use Rattle.token_stream.specs.Streams.{Shows, passed}
+use Rattle.recovery_model.specs.declared.call.Call.{Call}
+use Rattle.recovery_model.specs.declared.call.Call.TheVariants.{State, Enter, Leave, Match, Wildcard, Sync, Report, Recover}
+use Rattle.recovery_model.specs.declared.open_rule.OpenRule.{OpenRule}
+use Rattle.recovery_model.specs.Calls.{Kept}
+use Rattle.recovery_model.specs.Sets.{WithinSets}
+use Rattle.recovery_model.specs.Views.{View, current, place}
+use Rattle.recovery_model.specs.Passing.{pass, reported, report_of, ended}
+use Rattle.recovery_model.specs.Repairs.{Outcome, expects, is_extra, is_missing, struck, takes, repairs, matched, matches, matches_any}
+use Rattle.recovery_model.specs.Syncs.{syncs}
+use Rattle.recovery_model.specs.Recovering.{unstuck, searching, search_length, recovers}
+use Rattle.recovery_model.specs.Steps.{left, reports, expected_at, accepted, step}
+use Rattle.recovery_model.specs.Journals.{Happened}
+use Rattle.recovery_model.specs.Histories.{is_accepted, is_of_the_tape, begins_choice, present, next_place, ends_repair, is_recover, skips}
+use Rattle.recovery_model.specs.Notes.{Tells}
+use Rattle.recovery_model.proofs.Fitting.{Fit}
+use Rattle.recovery_model.proofs.Shown.{Rises, Numbered, Onward, onward_ends, onward_rises, onward_numbered, onward_more, onward_next, passed_onward, passed_moves}
+use Rattle.recovery_model.proofs.Moves.{same_self, same_many, reported_shown}
+use Rattle.recovery_model.proofs.Doing.{Matches, matched_so, Syncs, syncs_so}
+use Rattle.recovery_model.proofs.Telling.{told, by_step, of_kind, reports_none, reports_kept, onward, ends, same_unstuck, searches_from}
+
+-- what is left begins no earlier
+onward_place : (old new : List Fields) → Rises old → Onward old new → own (token_at old 0) ≤ own (token_at new 0)
+onward_place old new rises o = subst (λ ts. own (token_at ts 0) ≤ own (token_at new 0)) (sym o.parts) (at o.dropped (subst Rises o.parts rises))
+  where
+    at : (d : List Fields) → Rises (d ++ new) → own (token_at (d ++ new) 0) ≤ own (token_at new 0)
+    at [] r = omega arith
+    at (t ∷ d) r = omega (arith, ap own (get_or-append-add (t ∷ d) new 0 no_token), r 0 (length (t ∷ d) + 0) (omega arith) (omega (arith, length-append (t ∷ d) new, o.some)))
+
+-- past a token that is not EOF a later place is reached
+passed_past : (ts new : List Fields) → EndsInEof ts → Rises ts → is_eof (token_at ts 0).typ ≡ false → Onward (passed ts) new → own (token_at ts 0) < own (token_at new 0)
+passed_past ts new ends rises e o =
+    let one = passed_onward ts ends in
+    let le : own (token_at ts 0) ≤ own (token_at (passed ts) 0) = onward_place ts (passed ts) rises one in
+    let ne : own (token_at (passed ts) 0) ≡ own (token_at ts 0) → ⊥ = passed_moves ts ends rises e in
+    let on : own (token_at (passed ts) 0) ≤ own (token_at new 0) = onward_place (passed ts) new (onward_rises ts (passed ts) rises one) o in
+    omega (arith, le, ne, on)
+
+struck_shown : (n : Net) (w : WithinSets) (v : View) → (struck n w v).shown ≡ passed v.shown
+struck_shown n w v = ap passed (reported_shown (report_of UnwantedToken (current v) (expects n w v)) v)
+
+left_shown : (v : View) → (left v).view.shown ≡ v.shown
+left_shown v = at v.open_rules refl
+  where
+    at : (os : List OpenRule) → v.open_rules ≡ os → (left v).view.shown ≡ v.shown
+    at [] e = rw e refl
+    at (o ∷ os) e = rw e refl
+
+module _ (v : View) (ends_in : EndsInEof v.shown) (rises : Rises v.shown) where
+  -- a token of the tape is answered only where one is passed
+  abbrev Answers : Outcome → Type 0
+  Answers o = is_of_the_tape o.answer ≡ true → place v < place o.view
+
+  past : (new : List Fields) → is_eof (current v).typ ≡ false → Onward (passed v.shown) new → place v < own (token_at new 0)
+  past new e o = passed_past v.shown new ends_in rises e o
+
+  kept_on : Onward v.shown v.shown
+  kept_on = (same_self v ends_in).onward
+
+  one_on : Onward (passed v.shown) (passed v.shown)
+  one_on = (same_self (pass v) (onward_ends v.shown (passed v.shown) ends_in (passed_onward v.shown ends_in))).onward
+
+  two_on : Onward (passed v.shown) (passed (passed v.shown))
+  two_on = passed_onward (passed v.shown) (onward_ends v.shown (passed v.shown) ends_in (passed_onward v.shown ends_in))
+
+  matched_past : is_eof (current v).typ ≡ false → (fits : Bool) (n : Net) (w : WithinSets) → Answers (matched fits n w v)
+  matched_past e fits n w =
+      cond_both fits (takes (ended v)) (repairs n w v) Answers
+      (λ f said. past (passed v.shown) e one_on)
+      (λ f. cond_both (is_extra n w v) (takes (struck n w v)) _ Answers
+      (λ g said. past _ e (subst (λ ts. Onward (passed v.shown) (passed ts)) (sym (struck_shown n w v)) two_on))
+      (λ g. cond_both (is_missing n w v) _ _ Answers
+      (λ m said. absurd (both_ways false refl said))
+      (λ m said. absurd (both_ways false refl said))))
+
+-- a call that neither ends repair nor recovers, and one that does not recover
+none_passes : (a s : Bool) → ((a && false) || ((a && false) && s)) ≡ true → ⊥
+none_passes true s e = both_ways false refl e
+none_passes false s e = both_ways false refl e
+
+only_ends : (a x s : Bool) → ((a && x) || ((a && false) && s)) ≡ true → x ≡ true
+only_ends true true s e = refl
+only_ends true false s e = e
+only_ends false x s e = absurd (both_ways false refl e)
+
+module _ (tape first : List Fields) (shows : Shows tape first) (n : Net) (fit : Fit n) where
+  module _ (h : List Happened) (v : View) (t : Tells n first h v) where
+    has_end : EndsInEof v.shown
+    has_end = ends tape first shows n fit h v t
+
+    on : Onward first v.shown
+    on = onward tape first shows n fit h v t
+
+    rising : Rises v.shown
+    rising = onward_rises first v.shown shows.rises on
+
+    own_indexes : Numbered v.shown
+    own_indexes = onward_numbered first v.shown (λ k l. (shows.named k l).index) on
+
+    of_matches : (o : Outcome) → Matches v o → Onward v.shown o.view.shown
+    of_matches o (inl m) = m.0.onward
+    of_matches o (inr m) = m.0.onward
+
+    of_syncs : (o : Outcome) → Syncs n v o → Onward v.shown o.view.shown
+    of_syncs o (inl s) = s.cleared.onward
+    of_syncs o (inr s) = s.same.onward
+
+    of_report : (k : ℕ) (w : WithinSets) → (reports n w k v).shown ≡ v.shown
+    of_report k w = at v.kept refl
+      where
+        at : (m : Option Kept) → v.kept ≡ m → (reports n w k v).shown ≡ v.shown
+        at None e = ap (λ u. u.shown) (reports_none n w k v e) ∙ cond_both (k == 2) v _ (λ u. u.shown ≡ v.shown) (λ f. refl) (λ f. reported_shown (of_kind k v) v)
+        at (Some m) e =
+            ap (λ u. u.shown) (reports_kept n w k v m e)
+            ∙ cond_both (k == 2) (reported (expected_at n w m) v) _ (λ u. u.shown ≡ v.shown) (λ f. reported_shown (expected_at n w m) v) (λ f. reported_shown (of_kind k v) v)
+
+    unstuck_on : Onward v.shown (unstuck v).shown
+    unstuck_on = (same_unstuck tape first shows n fit h v t).onward
+
+    searched_on : (w : WithinSets) → Onward (unstuck v).shown (recovers n w v).view.shown
+    searched_on w =
+        let u = searching (unstuck v) in
+        (same_many (search_length n w u) u (onward_ends v.shown (unstuck v).shown has_end unstuck_on)).onward
+
+    call_onward : (c : Call) (w : WithinSets) → Onward v.shown (accepted n w c v).view.shown
+    call_onward (State s) w = kept_on v has_end rising
+    call_onward (Enter r) w = kept_on v has_end rising
+    call_onward Leave w = subst (Onward v.shown) (sym (left_shown v)) (kept_on v has_end rising)
+    call_onward (Match ty) w = of_matches _ (matched_so v has_end own_indexes (matches ty v) n w)
+    call_onward Wildcard w = of_matches _ (matched_so v has_end own_indexes (matches_any v) n w)
+    call_onward Sync w = of_syncs _ (syncs_so n w v has_end rising own_indexes)
+    call_onward (Report k) w = subst (Onward v.shown) (sym (of_report k w)) (kept_on v has_end rising)
+    call_onward Recover w = onward_more v.shown (unstuck v).shown _ unstuck_on (searched_on w)
+
+    -- a call drops tokens from the front, and so the place never falls
+    pub step_onward : (c : Call) (w : WithinSets) → Onward v.shown (step n w c v).view.shown
+    step_onward c w = by_step (λ o. Onward v.shown o.view.shown) n w c v (λ d. kept_on v has_end rising) (λ none. call_onward c w)
+
+    pub step_rises : (c : Call) (w : WithinSets) → place v ≤ place (step n w c v).view
+    step_rises c w = onward_place v.shown _ rising (step_onward c w)
+
+    -- what ends repair, and a recover that skips, passes the token
+    abbrev pub passes : Happened → Bool
+    passes e = ends_repair n h e || (is_recover e && skips n first h e)
+
+    abbrev pub Passes : Call → Outcome → Type 0
+    Passes c o = passes (told c v o) ≡ true → place v < place o.view
+
+    skipped_past : (w : WithinSets) → is_eof (current v).typ ≡ false → skips n first h (told Recover v (recovers n w v)) ≡ true → place v < place (recovers n w v).view
+    skipped_past w e said =
+        let next : place (unstuck v) ≡ own (token_at (passed v.shown) 0) =
+        searches_from tape first shows n fit h v t (recovers n w v)
+        ∙ cond-true (skips n first h (told Recover v (recovers n w v))) (next_place first (place v)) (place v) said
+        ∙ onward_next first v.shown shows.rises on in
+        let past : place v < own (token_at (passed v.shown) 0) = passed_past v.shown (passed v.shown) has_end rising e (one_on v has_end rising) in
+        let far : place (unstuck v) ≤ place (recovers n w v).view = onward_place (unstuck v).shown _ (onward_rises v.shown (unstuck v).shown rising unstuck_on) (searched_on w) in
+        omega (arith, next, past, far)
+
+    call_passes : (c : Call) (w : WithinSets) → is_eof (current v).typ ≡ false → Passes c (accepted n w c v)
+    call_passes (State s) w e said = absurd (both_ways false refl said)
+    call_passes (Enter r) w e said = absurd (both_ways false refl said)
+    call_passes Leave w e said = absurd (none_passes (is_accepted (left v).answer) _ said)
+    call_passes (Match ty) w e said = matched_past v has_end rising e (matches ty v) n w (only_ends _ _ _ said)
+    call_passes Wildcard w e said = matched_past v has_end rising e (matches_any v) n w (only_ends _ _ _ said)
+    call_passes Sync w e said =
+        let o = syncs n w v in
+        let moved : (place o.view == place v) ≡ false = not-true _ (and_parts (begins_choice n (present n h)) _ (only_ends (is_accepted o.answer) _ _ said)).1 in
+        let ne : place o.view ≡ place v → ⊥ = λ d. both_ways _ moved (eq-eqb (place o.view) (place v) d) in
+        let le : place v ≤ place o.view = onward_place v.shown _ rising (call_onward Sync w) in
+        omega (arith, ne, le)
+    call_passes (Report k) w e said = absurd (both_ways false refl said)
+    call_passes Recover w e said = skipped_past w e said
+
+    pub step_passes : (c : Call) (w : WithinSets) → is_eof (current v).typ ≡ false → Passes c (step n w c v)
+    step_passes c w e = by_step (Passes c) n w c v (λ d said. absurd (both_ways false refl said)) (λ none. call_passes c w e)
