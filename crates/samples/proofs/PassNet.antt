@@ -6,29 +6,29 @@ use Rattle.ll1_analyzer.proofs.Within.{one}
 use Rattle.samples.specs.Pass.{pass, PassSets}
 use Rattle.samples.proofs.Onward.{Ends, over_one, over_two, on_stop, within_ends}
 
-iff_trans : {A B C : Type 0} → (A ↔ B) → (B ↔ C) → (A ↔ C)
+pub iff_trans : {A B C : Type 0} → (A ↔ B) → (B ↔ C) → (A ↔ C)
 iff_trans e f = (λ a. f.0 (e.0 a), λ c. e.1 (f.1 c))
 
 module _ (x : ℤ) where
-  from_4 : (p : List ℕ) → (Ends pass x 4 p ↔ (x ≡ eof))
+  pub from_4 : (p : List ℕ) → (Ends pass x 4 p ↔ (x ≡ eof))
   from_4 p = iff_trans (over_one pass x 4 5 p refl refl refl) (one eof x)
 
-  from_7 : (p : List ℕ) → (Ends pass x 7 p ↔ (x ≡ pos 1))
+  pub from_7 : (p : List ℕ) → (Ends pass x 7 p ↔ (x ≡ pos 1))
   from_7 p = iff_trans (over_one pass x 7 7 p refl refl refl) (one (pos 1) x)
 
-  from_8 : (p : List ℕ) → (Ends pass x 8 p ↔ (x ≡ pos 2))
+  pub from_8 : (p : List ℕ) → (Ends pass x 8 p ↔ (x ≡ pos 2))
   from_8 p = iff_trans (over_one pass x 8 8 p refl refl refl) (one (pos 2) x)
 
-  from_6 : (p : List ℕ) → (Ends pass x 6 p ↔ (x ≡ pos 1))
+  pub from_6 : (p : List ℕ) → (Ends pass x 6 p ↔ (x ≡ pos 1))
   from_6 p = iff_trans (over_one pass x 6 6 p refl refl refl) (from_7 p)
 
-  from_2 : (p : List ℕ) → (Ends pass x 2 p ↔ (x ≡ pos 1))
+  pub from_2 : (p : List ℕ) → (Ends pass x 2 p ↔ (x ≡ pos 1))
   from_2 p = iff_trans (over_one pass x 2 3 p refl refl refl) (from_6 (3 ∷ p))
 
-  from_1 : (p : List ℕ) → (Ends pass x 1 p ↔ ((x ≡ eof) ⊎ (x ≡ pos 1)))
+  pub from_1 : (p : List ℕ) → (Ends pass x 1 p ↔ ((x ≡ eof) ⊎ (x ≡ pos 1)))
   from_1 p = iff_trans (over_two pass x 1 1 p refl refl refl) (λ h. ⊎_swap (⊎_map (from_2 p).0 (from_4 p).0 h), λ h. ⊎_map (from_2 p).1 (from_4 p).1 (⊎_swap h))
 
-  from_3 : (p : List ℕ) → (Ends pass x 3 p ↔ ((x ≡ eof) ⊎ (x ≡ pos 1)))
+  pub from_3 : (p : List ℕ) → (Ends pass x 3 p ↔ ((x ≡ eof) ⊎ (x ≡ pos 1)))
   from_3 p = iff_trans (over_one pass x 3 4 p refl refl refl) (from_1 p)
 
 pub pass_sets : PassSets

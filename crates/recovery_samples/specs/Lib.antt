@@ -1,0 +1,4 @@
+pub mod Examples
+pub mod Beginnings
+pub mod Seen
+pub mod Samples

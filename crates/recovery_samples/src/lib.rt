@@ -1,0 +1,4 @@
+// Worked examples of the parser's repairs, in the pass net.
+#![tactic(auto)]
+
+pub mod sample;
