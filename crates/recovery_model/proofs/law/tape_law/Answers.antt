@@ -5,11 +5,18 @@ use Rattle.atn_graph.proofs.Soundness.{sound_of}
 use Rattle.recovery_model.specs.Journals.{run, journal}
 use Rattle.recovery_model.specs.Notes.{Tells}
 use Rattle.recovery_model.proofs.Fitting.{fit_of}
+use Rattle.recovery_model.proofs.Keeping.{law_but_last}
+use Rattle.recovery_model.proofs.Counting.{few_recovers}
 use Rattle.recovery_model.proofs.Telling.{tells_none, tells_run}
 use Rattle.recovery_model.proofs.law.tape_law.Goals as goal
 
 pub returns : goal.returns
 returns c = record {
+  law = λ a w agree v new cs.
+    let n = net_of a in
+    let fit = fit_of n (sound_of a.graph) a.graph.limits in
+    law_but_last v.tape v.shown new.shows n fit w agree v new.state new.none_open new.noted refl cs
+    (few_recovers v.tape v.shown new.shows n fit w cs v new.state new.none_open new.noted refl);
   notes = λ a w v new cs.
     let n = net_of a in
     let fit = fit_of n (sound_of a.graph) a.graph.limits in
