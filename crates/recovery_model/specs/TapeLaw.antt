@@ -2,7 +2,6 @@
 use Rattle.std.specs.Prelude.{◌≡◌, List, [], reverse, None}
 use Rattle.atn.specs.declared.atn.Atn.{Atn}
 use Rattle.atn.specs.Checked.{net_of}
-use Rattle.token.specs.Tokens.{Fields}
 use Rattle.token_stream.specs.Streams.{Shows}
 use Rattle.recovery_model.specs.declared.call.Call.{Call}
 use Rattle.recovery_model.specs.Sets.{WithinSets, Agree}

@@ -13,13 +13,13 @@ use Rattle.recovery_model.proofs.law.tape_law.Goals as goal
 pub returns : goal.returns
 returns c = record {
   law = λ a w agree v new cs.
-    let n = net_of a in
-    let fit = fit_of n (sound_of a.graph) a.graph.limits in
-    law_but_last v.tape v.shown new.shows n fit w agree v new.state new.none_open new.noted refl cs
-    (few_recovers v.tape v.shown new.shows n fit w cs v new.state new.none_open new.noted refl);
+      let n = net_of a in
+      let fit = fit_of n (sound_of a.graph) a.graph.limits in
+      law_but_last v.tape v.shown new.shows n fit w agree v new.state new.none_open new.noted refl cs
+      (few_recovers v.tape v.shown new.shows n fit w cs v new.state new.none_open new.noted refl);
   notes = λ a w v new cs.
-    let n = net_of a in
-    let fit = fit_of n (sound_of a.graph) a.graph.limits in
-    subst (λ h. Tells n v.shown h (run n w cs v)) (append-nil (reverse (journal n w cs v)))
-    (tells_run v.tape v.shown new.shows n fit w cs [] v (tells_none v.tape v.shown new.shows n fit v new.state new.none_open new.noted refl));
+      let n = net_of a in
+      let fit = fit_of n (sound_of a.graph) a.graph.limits in
+      subst (λ h. Tells n v.shown h (run n w cs v)) (append-nil (reverse (journal n w cs v)))
+      (tells_run v.tape v.shown new.shows n fit w cs [] v (tells_none v.tape v.shown new.shows n fit v new.state new.none_open new.noted refl));
 }
