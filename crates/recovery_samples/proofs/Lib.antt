@@ -1,2 +1,4 @@
 pub mod Tests
 pub mod Repaired
+pub mod Fresh
+pub mod Broken

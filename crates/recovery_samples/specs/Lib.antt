@@ -2,3 +2,5 @@ pub mod Examples
 pub mod Beginnings
 pub mod Seen
 pub mod Samples
+pub mod Machines
+pub mod Faulty
