@@ -1,5 +1,6 @@
 -- The worked examples, by the tests of the pass net.
 use Rattle.std.proofs.Common.{sym, refl, subst}
+use Rattle.samples.proofs.PassNet.{pass_sets}
 use Rattle.recovery_samples.specs.Samples.{Repaired, Samples}
 use Rattle.recovery_samples.proofs.Tests.{tests, tests_agree, tests_only}
 
@@ -25,4 +26,4 @@ by_tests = record {
 }
 
 pub samples : Samples
-samples = record { tests = tests; agree = tests_agree; repaired = λ w a. subst Repaired (sym (tests_only w a)) by_tests }
+samples = record { sets = pass_sets; tests = tests; agree = tests_agree; repaired = λ w a. subst Repaired (sym (tests_only w a)) by_tests }

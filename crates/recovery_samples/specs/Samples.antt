@@ -5,7 +5,7 @@ use Rattle.token.specs.Tokens.{Fields}
 use Rattle.records.specs.Leaves.{Said as Leaf}
 use Rattle.records.specs.declared.leaf.LeafKind.TheVariants.{Terminal, Error}
 use Rattle.records.specs.declared.report.ReportKind.TheVariants.{NoViableAlternative, InputMismatch, FailedPredicate, UnwantedToken, MissingToken}
-use Rattle.samples.specs.Pass.{pass}
+use Rattle.samples.specs.Pass.{pass, PassSets}
 use Rattle.recovery_model.specs.Calls.{Kept, Done, Left, Token, Mismatch as NoMatch}
 use Rattle.recovery_model.specs.declared.notes.Mode.TheVariants.{Settled, InRepair}
 use Rattle.recovery_model.specs.Sets.{WithinSets, Agree}
@@ -84,8 +84,10 @@ pub record Repaired (w : WithinSets) : Type 0 where
       ∷ record { answer = Done; leaves = none_fits; place = 5; reports = 1; mode = InRepair } ∷ []
   pub loop_back_report : latest (end w LoopBack) ≡ Some (record { kind = UnwantedToken; index = Some 3; smallest = Eof })
 
--- Some tests agree with the walks of the pass net, and with any that do the examples go so.
+-- The within-rule sets of four states are known; some tests agree with the walks of the pass net, and with any that do the
+-- examples go so.
 pub record Samples : Type 0 where
+  pub sets : PassSets
   pub tests : WithinSets
   pub agree : Agree pass tests
   pub repaired : (w : WithinSets) → Agree pass w → Repaired w
