@@ -1,4 +1,4 @@
--- What has happened so far, told by accepted calls, their answers and the tokens shown, and never by what the parser notes.
+-- What has happened so far, told by accepted calls, their answers, the tokens shown and the net's sets, and never by the notes.
 -- A history has the latest event first.
 use Rattle.std.specs.Prelude.{ℕ, Bool, true, false, not, ◌&&◌, ◌==◌, List, [], ◌∷◌, filter, nat_le, Option, Some, None, is_none, unwrap_or, option_to_list, if◌then◌else◌}
 use Rattle.std.specs.List.{flat_map}
@@ -97,7 +97,7 @@ goes_back n s = at (choice (state_at n s).kind)
     at GoesBack = true
     at c = false
 
--- neither the token first shown at the place may come in the state, nor nothing
+-- the token first shown at the place may not come in the state, and what comes there may not be nothing
 abbrev pub is_unfit : WithinSets → List Fields → ℕ → ℕ → Bool
 is_unfit w ts s p = not (w s (type_number (token_at (shown_from p ts) 0).typ)) && not (w s epsilon)
 
