@@ -83,7 +83,7 @@ module _ (n : Net) (w : WithinSets) (v : View) (ends : EndsInEof v.shown) (rises
   in_place : (o : Outcome) → Same v o.view → place o.view ≡ place v → Syncs n v o
   in_place o same e = inr (record { same = same; ends_nothing = and_right (begins_choice n (here v)) _ (ap not (eq-eqb (place o.view) (place v) e)) })
 
-  not_eof : may_come w v ≡ false → may_be_nothing w v ≡ false → is_extra n w v ≡ true → is_eof (current v).typ ≡ false
+  pub not_eof : may_come w v ≡ false → may_be_nothing w v ≡ false → is_extra n w v ≡ true → is_eof (current v).typ ≡ false
   not_eof come nothing extra = at (cases_Bool (is_eof (current v).typ))
     where
       at : (is_eof (current v).typ ≡ true) ⊎ (is_eof (current v).typ ≡ false) → is_eof (current v).typ ≡ false
@@ -92,7 +92,7 @@ module _ (n : Net) (w : WithinSets) (v : View) (ends : EndsInEof v.shown) (rises
           absurd (both_ways (is_extra n w v) (ap (λ t. expects n w v (type_number t.typ)) (ahead_of_eof v.shown ends e) ∙ none) extra)
       at (inr e) = e
 
-  struck_moves : is_eof (current v).typ ≡ false → place (struck n w v) ≡ place v → ⊥
+  pub struck_moves : is_eof (current v).typ ≡ false → place (struck n w v) ≡ place v → ⊥
   struck_moves e same = passed_moves v.shown ends rises e (ap (λ ts. own (token_at (passed ts) 0)) (sym (reported_shown (report_of UnwantedToken (current v) (expects n w v)) v)) ∙ same)
 
   acted : (c : Choice) → choice_here n v ≡ c → may_come w v ≡ false → may_be_nothing w v ≡ false → Syncs n v (acts c n w v)

@@ -3,6 +3,7 @@ pub mod Moves
 pub mod Doing
 pub mod Fitting
 pub mod Telling
+pub mod Repairing
 pub mod Searching
 pub mod Ending
 pub mod Leaves

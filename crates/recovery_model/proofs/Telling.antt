@@ -43,7 +43,7 @@ by_step P n w c v denied does_it = at (denial n w c v) refl
     at (Some d) e = rw e (denied d)
 
 -- no fault fits
-no_first : (f : Denial × Bool) (fs : List (Denial × Bool)) → first_fault (f ∷ fs) ≡ None → (f.1 ≡ false) × (first_fault fs ≡ None)
+pub no_first : (f : Denial × Bool) (fs : List (Denial × Bool)) → first_fault (f ∷ fs) ≡ None → (f.1 ≡ false) × (first_fault fs ≡ None)
 no_first f fs = at (f.1) refl
   where
     at : (b : Bool) → f.1 ≡ b → first_fault (f ∷ fs) ≡ None → (f.1 ≡ false) × (first_fault fs ≡ None)

@@ -1,16 +1,18 @@
--- What has happened so far, told by accepted calls, their answers and the tokens shown, and never by what the parser notes.
+-- What has happened so far, told by accepted calls, their answers, the tokens shown and the net's sets, and never by the notes.
 -- A history has the latest event first.
-use Rattle.std.specs.Prelude.{ℕ, Bool, true, false, not, ◌&&◌, ◌==◌, List, [], ◌∷◌, filter, nat_le, Option, Some, None, unwrap_or, option_to_list, if◌then◌else◌}
+use Rattle.std.specs.Prelude.{ℕ, Bool, true, false, not, ◌&&◌, ◌==◌, List, [], ◌∷◌, filter, nat_le, Option, Some, None, is_none, unwrap_or, option_to_list, if◌then◌else◌}
 use Rattle.std.specs.List.{flat_map}
 use Rattle.atn_graph.specs.Net.{Net, rule_at, state_at}
 use Rattle.ll1_analyzer.specs.Chains.{follow_states}
-use Rattle.token.specs.Tokens.{Fields, own, is_eof}
+use Rattle.ll1_analyzer.specs.Sets.{epsilon}
+use Rattle.token.specs.Tokens.{Fields, type_number, own, is_eof}
 use Rattle.token_stream.specs.Tapes.{token_at}
 use Rattle.recovery_model.specs.declared.call.Call.{Call}
-use Rattle.recovery_model.specs.declared.call.Call.TheVariants.{State, Enter, Leave, Match, Wildcard, Sync, Recover}
+use Rattle.recovery_model.specs.declared.call.Call.TheVariants.{State, Enter, Leave, Match, Wildcard, Sync, Report, Recover}
 use Rattle.recovery_model.specs.Calls.{Said, Token, Denied}
 use Rattle.recovery_model.specs.Journals.{Happened}
-use Rattle.recovery_model.specs.Syncs.{Choice, Begins, choice}
+use Rattle.recovery_model.specs.Sets.{WithinSets}
+use Rattle.recovery_model.specs.Syncs.{Choice, Begins, GoesBack, choice}
 
 -- the present state, and the open rules by the states that invoked them, innermost first
 pub record Standing : Type 0 where
@@ -81,6 +83,40 @@ ends_repair n h e = is_accepted e.answer && at e.call
     at Wildcard = is_of_the_tape e.answer
     at Sync = begins_choice n (present n h) && not (e.after == e.before)
     at c = false
+
+-- a made-up token is answered
+abbrev pub is_made_up : Said → Bool
+is_made_up (Token t) = is_none t.index
+is_made_up a = false
+
+-- the state is on the way back of a loop
+abbrev pub goes_back : Net → ℕ → Bool
+goes_back n s = at (choice (state_at n s).kind)
+  where
+    at : Choice → Bool
+    at GoesBack = true
+    at c = false
+
+-- the token first shown at the place may not come in the state, and what comes there may not be nothing
+abbrev pub is_unfit : WithinSets → List Fields → ℕ → ℕ → Bool
+is_unfit w ts s p = not (w s (type_number (token_at (shown_from p ts) 0).typ)) && not (w s epsilon)
+
+-- A fault is reported, unless repair goes on already: by a report, by a match or a wildcard that answers a made-up token, and
+-- by a sync on the way back of a loop where the token first shown does not fit.
+abbrev pub begins_repair : Net → WithinSets → List Fields → List Happened → Happened → Bool
+begins_repair n w ts h e = is_accepted e.answer && at e.call
+  where
+    at : Call → Bool
+    at (Match t) = is_made_up e.answer
+    at Wildcard = is_made_up e.answer
+    at Sync = goes_back n (present n h) && is_unfit w ts (present n h) e.before
+    at (Report k) = true
+    at c = false
+
+-- a fault was reported since repair was last ended
+abbrev pub repairing : Net → WithinSets → List Fields → List Happened → Bool
+repairing n w ts [] = false
+repairing n w ts (e ∷ h) = if ends_repair n h e then false else if begins_repair n w ts h e then true else repairing n w ts h
 
 abbrev pub is_recover : Happened → Bool
 is_recover e = is_accepted e.answer && at e.call

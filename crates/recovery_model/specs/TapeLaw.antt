@@ -2,11 +2,15 @@
 use Rattle.std.specs.Prelude.{◌≡◌, List, [], reverse, None}
 use Rattle.atn.specs.declared.atn.Atn.{Atn}
 use Rattle.atn.specs.Checked.{net_of}
+use Rattle.atn_graph.specs.Net.{Net}
+use Rattle.token.specs.Tokens.{Fields}
 use Rattle.token_stream.specs.Streams.{Shows}
 use Rattle.recovery_model.specs.declared.call.Call.{Call}
 use Rattle.recovery_model.specs.Sets.{WithinSets, Agree}
 use Rattle.recovery_model.specs.Views.{View, nothing_noted}
-use Rattle.recovery_model.specs.Journals.{run, journal}
+use Rattle.recovery_model.specs.Syncs.{in_repair}
+use Rattle.recovery_model.specs.Journals.{Happened, run, journal}
+use Rattle.recovery_model.specs.Histories.{repairing}
 use Rattle.recovery_model.specs.Law.{Law}
 use Rattle.recovery_model.specs.Notes.{Tells}
 
@@ -26,8 +30,13 @@ TapeLaw =
     (a : Atn) (w : WithinSets) → Agree (net_of a) w → (v : View) → New v → (cs : List Call) →
     Law (net_of a) v.shown v.leaves (journal (net_of a) w cs v) (run (net_of a) w cs v).shown (run (net_of a) w cs v).leaves
 
--- The second theorem: place, marks, state and open rules follow from the calls, whatever the sets.
+-- What a parser notes is what the history says: the mode, by faults that were reported, and the rest.
+pub record Told (n : Net) (w : WithinSets) (first : List Fields) (h : List Happened) (v : View) : Type 0 where
+  pub tells : Tells n first h v
+  pub mode : in_repair v ≡ repairing n w first h
+
+-- The second theorem: place, mode, marks, state and open rules follow from the calls, whatever the sets.
 abbrev pub NotesTell : Type 0
 NotesTell =
     (a : Atn) (w : WithinSets) (v : View) → New v → (cs : List Call) →
-    Tells (net_of a) v.shown (reverse (journal (net_of a) w cs v)) (run (net_of a) w cs v)
+    Told (net_of a) w v.shown (reverse (journal (net_of a) w cs v)) (run (net_of a) w cs v)

@@ -3,11 +3,12 @@ use Rattle.std.proofs.lemmas.List.{append-nil}
 use Rattle.atn.specs.Checked.{net_of}
 use Rattle.atn_graph.proofs.Soundness.{sound_of}
 use Rattle.recovery_model.specs.Journals.{run, journal}
-use Rattle.recovery_model.specs.Notes.{Tells}
+use Rattle.recovery_model.specs.TapeLaw.{Told}
 use Rattle.recovery_model.proofs.Fitting.{fit_of}
 use Rattle.recovery_model.proofs.Keeping.{law_but_last}
 use Rattle.recovery_model.proofs.Counting.{few_recovers}
 use Rattle.recovery_model.proofs.Telling.{tells_none, tells_run}
+use Rattle.recovery_model.proofs.Repairing.{mode_run, mode_none}
 use Rattle.recovery_model.proofs.law.tape_law.Goals as goal
 
 pub returns : goal.returns
@@ -20,6 +21,10 @@ returns c = record {
   notes = λ a w v new cs.
       let n = net_of a in
       let fit = fit_of n (sound_of a.graph) a.graph.limits in
-      subst (λ h. Tells n v.shown h (run n w cs v)) (append-nil (reverse (journal n w cs v)))
-      (tells_run v.tape v.shown new.shows n fit w cs [] v (tells_none v.tape v.shown new.shows n fit v new.state new.none_open new.noted refl));
+      let none = tells_none v.tape v.shown new.shows n fit v new.state new.none_open new.noted refl in
+      subst (λ h. Told n w v.shown h (run n w cs v)) (append-nil (reverse (journal n w cs v)))
+      (record {
+        tells = tells_run v.tape v.shown new.shows n fit w cs [] v none;
+        mode = mode_run v.tape v.shown new.shows n fit w cs [] v none (mode_none v new.noted);
+      });
 }

@@ -1,0 +1,221 @@
+-- The mode is what the history says, call by call.
+use Rattle.std.proofs.Common.{◌≡◌, ℕ, zero, suc, Bool, true, false, not, ◌&&◌, ◌==◌, List, [], ◌∷◌, ◌++◌, ◌-◌, length, arith, reverse, pos, Option, Some, None, sym, refl, ap, ◌∙◌, append_assoc, subst, if◌then◌else◌, unwrap_or}
+use Rattle.std.proofs.lemmas.Bool.{cond_both, cond-true, cond-false, and_from, and_left, and_right, both_ways, not-false, lt-ltb, eq-eqb, eqb-true, ne_eqb}
+use Rattle.std.proofs.lemmas.List.{reverse-append}
+use Rattle.errors.specs.declared.denial.Denial.TheVariants.{NoRuleOpen, WrongReport}
+use Rattle.atn_graph.specs.Net.{Net}
+use Rattle.records.specs.declared.report.Report.{Report as ReportRecord}
+use Rattle.records.specs.declared.report.ReportKind.TheVariants.{UnwantedToken, MissingToken}
+use Rattle.records.specs.Heard.{hears}
+use Rattle.ll1_analyzer.specs.Sets.{epsilon}
+use Rattle.token.specs.Tokens.{Fields, type_number, own}
+use Rattle.token_stream.specs.Tapes.{token_at, EndsInEof}
+use Rattle.token_stream.specs.Streams.{Shows, passed, shown_at}
+use Rattle.recovery_model.specs.declared.call.Call.{Call}
+use Rattle.recovery_model.specs.declared.call.Call.TheVariants.{State, Enter, Leave, Match, Wildcard, Sync, Report, Recover}
+use Rattle.recovery_model.specs.declared.notes.Mode.{Mode}
+use Rattle.recovery_model.specs.declared.notes.Mode.TheVariants.{Settled, InRepair}
+use Rattle.recovery_model.specs.declared.open_rule.OpenRule.{OpenRule}
+use Rattle.recovery_model.specs.Calls.{Kept, Token, Done}
+use Rattle.recovery_model.specs.Sets.{WithinSets}
+use Rattle.recovery_model.specs.Views.{View, current, place, here, own_pair, nothing_noted}
+use Rattle.recovery_model.specs.Passing.{before, pass, pass_many, report_of, reported, ended}
+use Rattle.recovery_model.specs.Repairs.{Outcome, does, expects, is_extra, is_missing, made_up, struck, inserted, mismatch_at, mismatches, takes, repairs, matched, matches, matches_any}
+use Rattle.recovery_model.specs.Syncs.{Choice, Begins, GoesBack, Neither, choice_here, in_repair, may_come, may_be_nothing, stops_at, acts, syncs}
+use Rattle.recovery_model.specs.Recovering.{repeats, unstuck, searching, search_length, recovers}
+use Rattle.recovery_model.specs.Denials.{denial, is_report, none_open}
+use Rattle.recovery_model.specs.Steps.{left, reports, expected_at, accepted, step}
+use Rattle.recovery_model.specs.Journals.{Happened, happens, run, journal}
+use Rattle.recovery_model.specs.Histories.{is_accepted, is_of_the_tape, is_made_up, begins_choice, goes_back, is_unfit, ends_repair, begins_repair, repairing}
+use Rattle.recovery_model.specs.Notes.{Tells}
+use Rattle.recovery_model.proofs.Fitting.{Fit}
+use Rattle.recovery_model.proofs.Shown.{Rises, Numbered, Onward, onward_rises, onward_numbered, passed_onward}
+use Rattle.recovery_model.proofs.Moves.{reported_shown}
+use Rattle.recovery_model.proofs.Doing.{not_eof, struck_moves}
+use Rattle.recovery_model.proofs.Telling.{told, by_step, no_first, left_none, left_one, of_kind, reports_none, reports_kept, onward, ends, tells_step}
+
+-- whether repair goes on after an event that ends it or begins it or neither
+abbrev turned : Bool → Bool → Bool → Bool
+turned ends begins was = if ends then false else if begins then true else was
+
+ended_so : (e b was : Bool) → e ≡ true → false ≡ turned e b was
+ended_so e b was p = sym (cond-true e false _ p)
+
+begun_so : (e b was : Bool) → e ≡ false → b ≡ true → true ≡ turned e b was
+begun_so e b was p q = sym (cond-false e false _ p ∙ cond-true b true was q)
+
+stays_so : (e b was : Bool) → e ≡ false → b ≡ false → was ≡ turned e b was
+stays_so e b was p q = sym (cond-false e false _ p ∙ cond-false b true was q)
+
+goes_on : (e b was : Bool) → e ≡ false → was ≡ true → was ≡ turned e b was
+goes_on e b was p q = sym (cond-false e false _ p ∙ cond_both b true was (λ x. x ≡ was) (λ f. sym q) (λ f. refl))
+
+-- a report begins repair, and passing leaves the mode
+begun : (v : View) → v.noted.mode ≡ InRepair → in_repair v ≡ true
+begun v e = rw e refl
+
+reported_settled : (r : ReportRecord) (v : View) → v.noted.mode ≡ Settled → reported r v ≡ record v { heard = hears r v.heard; noted = record v.noted { mode = InRepair } }
+reported_settled r v e = rw (reported, e) refl
+
+reported_again : (r : ReportRecord) (v : View) → v.noted.mode ≡ InRepair → reported r v ≡ v
+reported_again r v e = rw (reported, e) refl
+
+reported_repairs : (r : ReportRecord) (v : View) → in_repair (reported r v) ≡ true
+reported_repairs r v = at v.noted.mode refl
+  where
+    at : (m : Mode) → v.noted.mode ≡ m → in_repair (reported r v) ≡ true
+    at Settled e = ap in_repair (reported_settled r v e)
+    at InRepair e = ap in_repair (reported_again r v e) ∙ begun v e
+
+mode_many : (k : ℕ) (v : View) → in_repair (pass_many k v) ≡ in_repair v
+mode_many zero v = refl
+mode_many (suc k) v = mode_many k (pass v)
+
+mode_unstuck : (v : View) → in_repair (unstuck v) ≡ in_repair v
+mode_unstuck v = cond_both (repeats v) (pass v) v (λ u. in_repair u ≡ in_repair v) (λ e. refl) (λ e. refl)
+
+of_the_tape : (t : Fields) → t.index ≡ Some (own t) → is_of_the_tape (Token t) ≡ true
+of_the_tape t e = rw e refl
+
+first_ahead : (ts : List Fields) → shown_at ts (pos 1) ≡ token_at ts 0
+first_ahead [] = refl
+first_ahead (t ∷ ts) = ap (λ b. token_at (t ∷ ts) (if b then 0 else length (t ∷ ts) - 1)) (lt-ltb 0 (length (t ∷ ts)) (omega arith))
+
+-- a match, by what it answers
+abbrev Answers : View → Outcome → Type 0
+Answers v o = in_repair o.view ≡ turned (is_accepted o.answer && is_of_the_tape o.answer) (is_accepted o.answer && is_made_up o.answer) (in_repair v)
+
+module _ (v : View) (ends_in : EndsInEof v.shown) (numbered : Numbered v.shown) (n : Net) (w : WithinSets) where
+  abbrev unwanted : ReportRecord
+  unwanted = report_of UnwantedToken (current v) (expects n w v)
+
+  struck_named : (current (struck n w v)).index ≡ Some (own (current (struck n w v)))
+  struck_named =
+      let one : Onward v.shown (passed v.shown) = passed_onward v.shown ends_in in
+      subst (λ ts. (token_at (passed ts) 0).index ≡ Some (own (token_at (passed ts) 0))) (sym (reported_shown unwanted v)) (onward_numbered v.shown (passed v.shown) numbered one 0 one.some)
+
+  answers_so : (fits : Bool) → Answers v (matched fits n w v)
+  answers_so fits =
+      cond_both fits (takes (ended v)) (repairs n w v) (Answers v)
+      (λ e. ended_so _ (is_made_up (Token (current v))) (in_repair v) (of_the_tape (current v) (numbered 0 ends_in.some)))
+      (λ e. cond_both (is_extra n w v) (takes (struck n w v)) _ (Answers v)
+      (λ e. ended_so _ (is_made_up (Token (current (struck n w v)))) (in_repair v) (of_the_tape (current (struck n w v)) struck_named))
+      (λ e. cond_both (is_missing n w v) (does (inserted n w v) (Token (made_up n w v))) (mismatches _ v) (Answers v)
+      (λ e. reported_repairs (report_of MissingToken (current v) (expects n w v)) v)
+      (λ e. refl)))
+
+  -- a sync, by where the parser stands
+  abbrev Turned : Outcome → Type 0
+  Turned o = in_repair o.view ≡ turned (is_accepted o.answer && (begins_choice n (here v) && not (place o.view == place v))) (is_accepted o.answer && (goes_back n (here v) && (not (may_come w v) && not (may_be_nothing w v)))) (in_repair v)
+
+  still : (begins_choice n (here v) && not (place v == place v)) ≡ false
+  still = and_right (begins_choice n (here v)) _ (ap not (eq-eqb (place v) (place v) refl))
+
+  fit_so : (not (may_come w v) && not (may_be_nothing w v)) ≡ false → (goes_back n (here v) && (not (may_come w v) && not (may_be_nothing w v))) ≡ false
+  fit_so e = and_right (goes_back n (here v)) _ e
+
+  acted : Rises v.shown → (c : Choice) → choice_here n v ≡ c → may_come w v ≡ false → may_be_nothing w v ≡ false → Turned (acts c n w v)
+  acted rises Begins is come nothing =
+      let begins : begins_choice n (here v) ≡ true = rw is refl in
+      let not_back : goes_back n (here v) ≡ false = rw is refl in
+      cond_both (is_extra n w v) (does (struck n w v) Done) (mismatches (mismatch_at (own_pair v) v) v) Turned
+      (λ e. ended_so _ (goes_back n (here v) && (not (may_come w v) && not (may_be_nothing w v))) (in_repair v) (and_from _ _ begins (ap not (ne_eqb _ _ (struck_moves n w v ends_in rises numbered (not_eof n w v ends_in rises numbered come nothing e))))))
+      (λ e. stays_so _ _ _ still (and_left _ _ not_back))
+  acted rises GoesBack is come nothing =
+      let begins : begins_choice n (here v) ≡ false = rw is refl in
+      let back : goes_back n (here v) ≡ true = rw is refl in
+      mode_many (before (stops_at n w v) v.shown) (reported unwanted v)
+      ∙ reported_repairs unwanted v
+      ∙ begun_so _ _ _ (and_left _ _ begins) (and_from _ _ back (and_from _ _ (ap not come) (ap not nothing)))
+  acted rises Neither is come nothing =
+      let not_back : goes_back n (here v) ≡ false = rw is refl in
+      stays_so _ _ _ still (and_left _ _ not_back)
+
+  turned_so : Rises v.shown → Turned (syncs n w v)
+  turned_so rises =
+      cond_both (in_repair v) (does v Done) _ Turned
+      (λ e. goes_on _ _ _ still e)
+      (λ e. cond_both (may_come w v) (does _ Done) _ Turned
+      (λ e. stays_so _ _ _ still (fit_so (and_left _ _ (ap not e))))
+      (λ come. cond_both (may_be_nothing w v) (does _ Done) (acts (choice_here n v) n w v) Turned
+      (λ e. stays_so _ _ _ still (fit_so (and_right (not (may_come w v)) _ (ap not e))))
+      (λ nothing. acted rises (choice_here n v) refl come nothing)))
+
+-- A report that is accepted begins repair: a mismatch is reported only if one is kept.
+no_report : (k : ℕ) (v : View) → v.kept ≡ None → (k == 2) ≡ true → is_report k v ≡ false
+no_report k v e two = rw (eqb-true k 2 two, e) refl
+
+reports_so : (n : Net) (w : WithinSets) (k : ℕ) (v : View) → is_report k v ≡ true → in_repair (reports n w k v) ≡ true
+reports_so n w k v may = at v.kept refl
+  where
+    at : (m : Option Kept) → v.kept ≡ m → in_repair (reports n w k v) ≡ true
+    at None e = ap in_repair (reports_none n w k v e) ∙ cond_both (k == 2) v _ (λ u. in_repair u ≡ true) (λ two. absurd (both_ways _ (no_report k v e two) may)) (λ f. reported_repairs (of_kind k v) v)
+    at (Some m) e =
+        ap in_repair (reports_kept n w k v m e)
+        ∙ cond_both (k == 2) (reported (expected_at n w m) v) _ (λ u. in_repair u ≡ true) (λ f. reported_repairs (expected_at n w m) v) (λ f. reported_repairs (of_kind k v) v)
+
+module _ (tape first : List Fields) (shows : Shows tape first) (n : Net) (fit : Fit n) (w : WithinSets) where
+  module _ (h : List Happened) (v : View) (t : Tells n first h v) where
+    has_end : EndsInEof v.shown
+    has_end = ends tape first shows n fit h v t
+
+    rising : Rises v.shown
+    rising = onward_rises first v.shown shows.rises (onward tape first shows n fit h v t)
+
+    own_indexes : Numbered v.shown
+    own_indexes = onward_numbered first v.shown (λ k l. (shows.named k l).index) (onward tape first shows n fit h v t)
+
+    abbrev Turns : Call → Outcome → Type 0
+    Turns c o = in_repair o.view ≡ turned (ends_repair n h (told c v o)) (begins_repair n w first h (told c v o)) (in_repair v)
+
+    turns_leave : Turns Leave (left v)
+    turns_leave = at v.open_rules refl
+      where
+        at : (os : List OpenRule) → v.open_rules ≡ os → Turns Leave (left v)
+        at [] e = subst (Turns Leave) (sym (left_none v e)) refl
+        at (o ∷ os) e = subst (Turns Leave) (sym (left_one v o os e)) refl
+
+    unfit_so : (not (may_come w v) && not (may_be_nothing w v)) ≡ is_unfit w first (here v) (place v)
+    unfit_so = ap (λ tok. not (w (here v) (type_number tok.typ)) && not (w (here v) epsilon)) (first_ahead v.shown ∙ ap (λ ts. token_at ts 0) t.shown)
+
+    turns_sync : Turns Sync (syncs n w v)
+    turns_sync =
+        let o = syncs n w v in
+        subst (λ s. in_repair o.view ≡ turned (is_accepted o.answer && (begins_choice n s && not (place o.view == place v))) (is_accepted o.answer && (goes_back n s && is_unfit w first s (place v))) (in_repair v)) (ap (λ p. unwrap_or p.state 0) t.standing)
+        (subst (λ b. in_repair o.view ≡ turned (is_accepted o.answer && (begins_choice n (here v) && not (place o.view == place v))) (is_accepted o.answer && (goes_back n (here v) && b)) (in_repair v)) unfit_so
+        (turned_so v has_end own_indexes n w rising))
+
+    turns_report : (k : ℕ) → denial n w (Report k) v ≡ None → Turns (Report k) (does (reports n w k v) Done)
+    turns_report k none =
+        let f = no_first (WrongReport, not (is_report k v)) [] (no_first (NoRuleOpen, none_open v) ((WrongReport, not (is_report k v)) ∷ []) none).1 in
+        reports_so n w k v (not-false (is_report k v) f.0)
+
+    turns_recover : Turns Recover (recovers n w v)
+    turns_recover = let u = searching (unstuck v) in mode_many (search_length n w u) u ∙ mode_unstuck v
+
+    turns : (c : Call) → denial n w c v ≡ None → Turns c (accepted n w c v)
+    turns (State s) none = refl
+    turns (Enter r) none = refl
+    turns Leave none = turns_leave
+    turns (Match ty) none = answers_so v has_end own_indexes n w (matches ty v)
+    turns Wildcard none = answers_so v has_end own_indexes n w (matches_any v)
+    turns Sync none = turns_sync
+    turns (Report k) none = turns_report k none
+    turns Recover none = turns_recover
+
+    mode_step : (c : Call) → in_repair v ≡ repairing n w first h → in_repair (step n w c v).view ≡ repairing n w first (happens n w c v ∷ h)
+    mode_step c m =
+        let e = happens n w c v in
+        by_step (Turns c) n w c v (λ d. refl) (turns c) ∙ ap (turned (ends_repair n h e) (begins_repair n w first h e)) m
+
+  -- and so it is after any calls
+  pub mode_run : (cs : List Call) (h : List Happened) (v : View) → Tells n first h v → in_repair v ≡ repairing n w first h → in_repair (run n w cs v) ≡ repairing n w first (reverse (journal n w cs v) ++ h)
+  mode_run [] h v t m = m
+  mode_run (c ∷ cs) h v t m =
+      let now = happens n w c v in
+      let js = journal n w cs (step n w c v).view in
+      let order : reverse (now ∷ js) ++ h ≡ reverse js ++ now ∷ h = ap (λ xs. xs ++ h) (reverse-append (now ∷ []) js) ∙ append_assoc (reverse js) (now ∷ []) h in
+      mode_run cs (now ∷ h) (step n w c v).view (tells_step tape first shows n fit h v t w c) (mode_step h v t c m) ∙ ap (repairing n w first) (sym order)
+
+pub mode_none : (v : View) → v.noted ≡ nothing_noted → in_repair v ≡ false
+mode_none v noted = rw noted refl
