@@ -7,22 +7,15 @@ it counts instructions by valgrind's callgrind at N and at 2 N tokens, and print
 N. A stream that went over its tokens again for each look would show numbers that grow with N.
 """
 import os
-import re
-import subprocess
 import sys
 
+from bench_sets import instructions
 from gen_tapes import NET
 
 
 def script(count, show, hidden):
     rows = ["word 1 %d 1 %d 0 0\n" % (1 if hidden and i % 4 else 0, i) for i in range(count - 1)]
     return "show %s\n" % show + NET + "".join(rows) + "word -1 0 1 0 0 0\nwithin 8\n"
-
-
-def instructions(replay, text):
-    command = ["valgrind", "--tool=callgrind", "--callgrind-out-file=/dev/null", replay]
-    done = subprocess.run(command, input=text.encode(), capture_output=True, check=True)
-    return int(re.search(rb"Collected : (\d+)", done.stderr).group(1))
 
 
 def main():

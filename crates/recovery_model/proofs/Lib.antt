@@ -11,3 +11,4 @@ pub mod Keeping
 pub mod Below
 pub mod Past
 pub mod Counting
+pub mod Setting

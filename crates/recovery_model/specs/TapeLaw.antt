@@ -1,12 +1,13 @@
 -- The theorems: every list of calls of a new parser keeps the tape law, and the notes are what the law's words say.
-use Rattle.std.specs.Prelude.{◌≡◌, List, [], reverse, None}
+use Rattle.std.specs.Prelude.{◌≡◌, List, [], reverse, None, ℕ, ℤ, Decides}
 use Rattle.atn.specs.declared.atn.Atn.{Atn}
 use Rattle.atn.specs.Checked.{net_of}
 use Rattle.atn_graph.specs.Net.{Net}
 use Rattle.token.specs.Tokens.{Fields}
 use Rattle.token_stream.specs.Streams.{Shows}
 use Rattle.recovery_model.specs.declared.call.Call.{Call}
-use Rattle.recovery_model.specs.Sets.{WithinSets, Agree}
+use Rattle.ll1_analyzer.specs.Sets.{Expected, InContext, Recovery}
+use Rattle.recovery_model.specs.Sets.{WithinSets, Agree, expected as expected_test, recovery as recovery_test}
 use Rattle.recovery_model.specs.Views.{View, nothing_noted}
 use Rattle.recovery_model.specs.Syncs.{in_repair}
 use Rattle.recovery_model.specs.Journals.{Happened, run, journal}
@@ -40,3 +41,9 @@ abbrev pub NotesTell : Type 0
 NotesTell =
     (a : Atn) (w : WithinSets) (v : View) → New v → (cs : List Call) →
     Told (net_of a) w v.shown (reverse (journal (net_of a) w cs v)) (run (net_of a) w cs v)
+
+-- By sets that agree, the steps look at the sets that walks define.
+pub record SetsAreWalks (a : Atn) (w : WithinSets) : Type 0 where
+  pub expected : (s : ℕ) (follows : List ℕ) (x : ℤ) → Decides (expected_test w s follows x) (Expected (net_of a) s follows x)
+  pub in_context : (s : ℕ) (follows : List ℕ) (x : ℤ) → Decides (expected_test w s follows x) (InContext (net_of a) s follows x)
+  pub recovery : (follows : List ℕ) (x : ℤ) → Decides (recovery_test w follows x) (Recovery (net_of a) follows x)
