@@ -3,7 +3,7 @@ use Rattle.std.specs.Global.{Vec}
 use Rattle.std.proofs.Common.{◌≡◌, List, map, Option, IfOk, Ok, Err, Result, refl, sym, subst, ap, arith}
 use Rattle.errors.specs.declared.denial.Denial.{Denial}
 use Rattle.errors.specs.declared.denial.Denial.TheVariants.{ShortTable, OutsideLimits, BrokenRule, LeftRecursion, FaultyChain, FaultyTape, NoRuleOpen, StateOutside, WrongRule, TooManyRules, NoLeafFree, WrongSearch, WrongReport, SetValue}
-use Rattle.errors.specs.Denials.{denial_number, DeniesFirst}
+use Rattle.errors.specs.Denials.{in_order, place_in, DeniesFirst}
 use Rattle.errors.proofs.Firsts.{denies, accepts}
 use Rattle.token.specs.declared.token_type.Span.{Span}
 use Rattle.token.specs.declared.kinds.CommonToken.{CommonToken}
@@ -20,7 +20,7 @@ use Rattle.answers.proofs.Written.{same_tape}
 -- where one denial alone can fit
 module _ (e : Denial) (P : Type 0) where
   pub only_denies : {X : Type 0} → P → DeniesFirst {X = X} (λ d. (d ≡ e) × P) (Err e)
-  only_denies p = denies (λ d. (d ≡ e) × P) e record { fits = (refl, p); none_before = λ f l h. omega (arith, l, ap denial_number h.0) }
+  only_denies p = denies (λ d. (d ≡ e) × P) e record { fits = (refl, p); none_before = λ f l h. omega (arith, l, ap (place_in in_order) h.0) }
 
   pub only_accepts : {X : Type 0} (x : X) → (P → ⊥) → DeniesFirst (λ d. (d ≡ e) × P) (Ok x)
   only_accepts x n = accepts (λ d. (d ≡ e) × P) x (λ d h. n h.1)

@@ -2,7 +2,7 @@
 use Rattle.std.proofs.Common.{◌<◌, ◌≤◌, subst, arith}
 use Rattle.errors.specs.declared.denial.Denial.{Denial}
 use Rattle.errors.specs.declared.denial.Denial.TheVariants.{ShortTable, OutsideLimits, BrokenRule, LeftRecursion}
-use Rattle.errors.specs.Denials.{denial_number, First}
+use Rattle.errors.specs.Denials.{IsBefore, First}
 use Rattle.atn_graph.specs.Tables.{Rows}
 use Rattle.atn_graph.specs.Net.{Net}
 use Rattle.atn_graph.specs.Written.{Writes}
@@ -21,13 +21,13 @@ first_of_tables t d w = record { fits = fits d w.fits; none_before = λ e. befor
     fits BrokenRule f = f
     fits _ f = absurd f
 
-    last : (d : Denial) → TableFault t d → denial_number d ≤ 3
+    last : (d : Denial) → TableFault t d → IsBefore d LeftRecursion
     last ShortTable f = omega arith
     last OutsideLimits f = omega arith
     last BrokenRule f = omega arith
     last _ f = absurd f
 
-    before : (e : Denial) → denial_number d ≤ 3 → (denial_number e < denial_number d → TableFault t e → ⊥) → denial_number e < denial_number d → Fault t e → ⊥
+    before : (e : Denial) → IsBefore d LeftRecursion → (IsBefore e d → TableFault t e → ⊥) → IsBefore e d → Fault t e → ⊥
     before ShortTable b none l f = none l f
     before OutsideLimits b none l f = none l f
     before BrokenRule b none l f = none l f
@@ -38,7 +38,7 @@ module _ (t : Rows) (n : Net) (w : Writes t n) (none : (d : Denial) → TableFau
   pub first_recursive : HasLeftRecursion n → First (Fault t) LeftRecursion
   first_recursive r = record { fits = (n, w, r); none_before = before }
     where
-      before : (e : Denial) → denial_number e < 4 → Fault t e → ⊥
+      before : (e : Denial) → IsBefore e LeftRecursion → Fault t e → ⊥
       before ShortTable l f = none ShortTable f
       before OutsideLimits l f = none OutsideLimits f
       before BrokenRule l f = none BrokenRule f

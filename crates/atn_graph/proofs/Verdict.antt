@@ -4,7 +4,7 @@ use Rattle.std.proofs.lemmas.List.{ext_get_or}
 use Rattle.std.proofs.lemmas.Bool.{both_ways}
 use Rattle.errors.specs.declared.denial.Denial.{Denial}
 use Rattle.errors.specs.declared.denial.Denial.TheVariants.{ShortTable, OutsideLimits, BrokenRule}
-use Rattle.errors.specs.Denials.{denial_number, First}
+use Rattle.errors.specs.Denials.{IsBefore, First}
 use Rattle.atn_graph.specs.declared.lists.Rule.{Rule}
 use Rattle.atn_graph.specs.Tables.{Rows, short_table, outside_limits}
 use Rattle.atn_graph.specs.Net.{Net, size, no_rule, no_state, no_edge, rule_at, edge_at}
@@ -52,7 +52,7 @@ net_once t n m w v i = record { max = max i; rules = rules i; states = states i;
 pub first_short : (t : Rows) → short_table t ≡ true → First (Fault t) ShortTable
 first_short t e = record { fits = e; none_before = before }
   where
-    before : (d : Denial) → denial_number d < 1 → Fault t d → ⊥
+    before : (d : Denial) → IsBefore d ShortTable → Fault t d → ⊥
     before ShortTable l f = omega arith
     before OutsideLimits l f = omega arith
     before BrokenRule l f = omega arith
@@ -61,7 +61,7 @@ first_short t e = record { fits = e; none_before = before }
 pub first_outside : (t : Rows) → short_table t ≡ false → outside_limits t ≡ true → First (Fault t) OutsideLimits
 first_outside t long e = record { fits = e; none_before = before }
   where
-    before : (d : Denial) → denial_number d < 2 → Fault t d → ⊥
+    before : (d : Denial) → IsBefore d OutsideLimits → Fault t d → ⊥
     before ShortTable l f = both_ways _ long f
     before OutsideLimits l f = omega arith
     before BrokenRule l f = omega arith
@@ -70,7 +70,7 @@ first_outside t long e = record { fits = e; none_before = before }
 pub first_broken : (t : Rows) → short_table t ≡ false → outside_limits t ≡ false → ((n : Net) → Writes t n → Sound n → ⊥) → First (Fault t) BrokenRule
 first_broken t long within broken = record { fits = broken; none_before = before }
   where
-    before : (d : Denial) → denial_number d < 3 → Fault t d → ⊥
+    before : (d : Denial) → IsBefore d BrokenRule → Fault t d → ⊥
     before ShortTable l f = both_ways _ long f
     before OutsideLimits l f = both_ways _ within f
     before BrokenRule l f = omega arith

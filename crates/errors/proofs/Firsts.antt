@@ -3,33 +3,30 @@ use Rattle.std.proofs.Common.{◌≡◌, ℕ, ◌<◌, true, false, ◌⊎◌, [
 use Rattle.std.proofs.lemmas.Bool.{cases_order, false≢true}
 use Rattle.errors.specs.declared.denial.Denial.{Denial}
 use Rattle.errors.specs.declared.denial.Denial.TheVariants.{ShortTable, OutsideLimits, BrokenRule, LeftRecursion, FaultyChain, FaultyTape, NoRuleOpen, StateOutside, WrongRule, TooManyRules, NoLeafFree, WrongSearch, WrongReport, SetValue}
-use Rattle.errors.specs.Denials.{denial_number, First, DeniesFirst}
+use Rattle.errors.specs.Denials.{in_order, place_in, IsBefore, First, DeniesFirst}
 
--- the denial with a number
-abbrev numbered : ℕ → Denial
-numbered n = get_or (SetValue ∷ ShortTable ∷ OutsideLimits ∷ BrokenRule ∷ LeftRecursion ∷ FaultyChain ∷ FaultyTape ∷ NoRuleOpen ∷ StateOutside ∷ WrongRule ∷ TooManyRules ∷ NoLeafFree ∷ WrongSearch ∷ WrongReport ∷ []) n SetValue
-
-numbered_is : (d : Denial) → numbered (denial_number d) ≡ d
-numbered_is ShortTable = refl
-numbered_is OutsideLimits = refl
-numbered_is BrokenRule = refl
-numbered_is LeftRecursion = refl
-numbered_is FaultyChain = refl
-numbered_is FaultyTape = refl
-numbered_is NoRuleOpen = refl
-numbered_is StateOutside = refl
-numbered_is WrongRule = refl
-numbered_is TooManyRules = refl
-numbered_is NoLeafFree = refl
-numbered_is WrongSearch = refl
-numbered_is WrongReport = refl
-numbered_is SetValue = refl
+-- each denial stands in the order, at a place of its own
+placed : (d : Denial) → get_or in_order (place_in in_order d) SetValue ≡ d
+placed ShortTable = refl
+placed OutsideLimits = refl
+placed BrokenRule = refl
+placed LeftRecursion = refl
+placed FaultyChain = refl
+placed FaultyTape = refl
+placed NoRuleOpen = refl
+placed StateOutside = refl
+placed WrongRule = refl
+placed TooManyRules = refl
+placed NoLeafFree = refl
+placed WrongSearch = refl
+placed WrongReport = refl
+placed SetValue = refl
 
 pub same_first : (Fits : Denial → Type 0) (d e : Denial) → First Fits d → First Fits e → d ≡ e
-same_first Fits d e p q = at (cases_order (denial_number d) (denial_number e))
+same_first Fits d e p q = at (cases_order (place_in in_order d) (place_in in_order e))
   where
-    at : (denial_number d ≡ denial_number e) ⊎ ((denial_number d < denial_number e) ⊎ (denial_number e < denial_number d)) → d ≡ e
-    at (inl x) = sym (numbered_is d) ∙ ap numbered x ∙ numbered_is e
+    at : (place_in in_order d ≡ place_in in_order e) ⊎ (IsBefore d e ⊎ IsBefore e d) → d ≡ e
+    at (inl x) = sym (placed d) ∙ ap (λ k. get_or in_order k SetValue) x ∙ placed e
     at (inr (inl l)) = absurd (q.none_before d l p.fits)
     at (inr (inr l)) = absurd (p.none_before e l q.fits)
 

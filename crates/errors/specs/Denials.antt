@@ -1,5 +1,5 @@
--- The numbers of the denials, and which of several is answered.
-use Rattle.std.specs.Prelude.{◌≡◌, ℕ, ◌<◌, true, is_ok, Err, Result}
+-- The numbers of the denials, the order in which they are answered, and which of several is answered.
+use Rattle.std.specs.Prelude.{◌≡◌, ℕ, suc, ◌<◌, ◌==◌, true, List, [], ◌∷◌, is_ok, Err, Result, if◌then◌else◌}
 use Rattle.errors.specs.declared.denial.Denial.{Denial}
 use Rattle.errors.specs.declared.denial.Denial.TheVariants.{ShortTable, OutsideLimits, BrokenRule, LeftRecursion, FaultyChain, FaultyTape, NoRuleOpen, StateOutside, WrongRule, TooManyRules, NoLeafFree, WrongSearch, WrongReport, SetValue}
 
@@ -19,10 +19,25 @@ denial_number WrongSearch = 12
 denial_number WrongReport = 13
 denial_number SetValue = 14
 
--- Of the denials that fit, d has the lowest number.
+-- The denials in the order in which they are answered: that of their numbers.
+abbrev pub in_order : List Denial
+in_order =
+    ShortTable ∷ OutsideLimits ∷ BrokenRule ∷ LeftRecursion ∷ FaultyChain ∷ FaultyTape ∷ NoRuleOpen
+    ∷ StateOutside ∷ WrongRule ∷ TooManyRules ∷ NoLeafFree ∷ WrongSearch ∷ WrongReport ∷ SetValue ∷ []
+
+-- the place of d in a list of denials, from 0
+abbrev pub place_in : List Denial → Denial → ℕ
+place_in [] d = 0
+place_in (e ∷ es) d = if denial_number e == denial_number d then 0 else suc (place_in es d)
+
+-- d comes before e in the order
+abbrev pub IsBefore : Denial → Denial → Type 0
+IsBefore d e = place_in in_order d < place_in in_order e
+
+-- Of the denials that fit, d comes first in the order.
 pub record First (Fits : Denial → Type 0) (d : Denial) : Type 0 where
   pub fits : Fits d
-  pub none_before : (e : Denial) → denial_number e < denial_number d → Fits e → ⊥
+  pub none_before : (e : Denial) → IsBefore e d → Fits e → ⊥
 
 -- The answer r denies with d exactly if d is the first denial that fits, and accepts exactly if none fits.
 pub record DeniesFirst {X : Type 0} (Fits : Denial → Type 0) (r : Result X Denial) : Type 0 where

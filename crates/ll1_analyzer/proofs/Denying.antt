@@ -4,7 +4,7 @@ use Rattle.std.specs.Prelude.{is_some, nat_lt, if◌then◌else◌}
 use Rattle.std.proofs.lemmas.Bool.{ltb-false}
 use Rattle.errors.specs.declared.denial.Denial.{Denial}
 use Rattle.errors.specs.declared.denial.Denial.TheVariants.{FaultyChain, StateOutside}
-use Rattle.errors.specs.Denials.{denial_number, First}
+use Rattle.errors.specs.Denials.{IsBefore, First}
 use Rattle.errors.proofs.Firsts.{denies}
 use Rattle.interval_set.specs.declared.set.IntervalSet.{IntervalSet}
 use Rattle.atn_graph.specs.declared.atn_state.StateKind.{StateKind}
@@ -32,7 +32,7 @@ kind_outside n s k is e = ltb-false s (size n) (sym (kind_tells n s k is) ∙ e)
 pub outside_first : (n : Net) (s : ℕ) → size n ≤ s → First (StateFault n s) StateOutside
 outside_first n s out = record { fits = out; none_before = before }
   where
-    before : (d : Denial) → denial_number d < 8 → StateFault n s d → ⊥
+    before : (d : Denial) → IsBefore d StateOutside → StateFault n s d → ⊥
     before StateOutside l f = omega arith
     before _ l f = f
 
@@ -44,12 +44,12 @@ no_state_fault n s l _ f = f
 pub chain_first : (n : Net) (s : ℕ) (chain : List ℕ) (d : Denial) → First (ChainFault n chain) d → First (Fault n s chain) d
 chain_first n s chain d w = record { fits = inl w.fits; none_before = before }
   where
-    late : (d e : Denial) → ChainFault n chain d → StateFault n s e → denial_number e < denial_number d → ⊥
+    late : (d e : Denial) → ChainFault n chain d → StateFault n s e → IsBefore e d → ⊥
     late FaultyChain StateOutside f g l = omega arith
     late FaultyChain _ f g l = g
     late _ e f g l = absurd f
 
-    before : (e : Denial) → denial_number e < denial_number d → Fault n s chain e → ⊥
+    before : (e : Denial) → IsBefore e d → Fault n s chain e → ⊥
     before e l (inl f) = w.none_before e l f
     before e l (inr f) = late d e w.fits f l
 
@@ -57,7 +57,7 @@ module _ (n : Net) (s : ℕ) (chain : List ℕ) (none : (d : Denial) → ChainFa
   pub state_first : size n ≤ s → First (Fault n s chain) StateOutside
   state_first out = record { fits = inr out; none_before = before }
     where
-      before : (e : Denial) → denial_number e < 8 → Fault n s chain e → ⊥
+      before : (e : Denial) → IsBefore e StateOutside → Fault n s chain e → ⊥
       before e l (inl f) = none e f
       before e l (inr f) = (outside_first n s out).none_before e l f
 

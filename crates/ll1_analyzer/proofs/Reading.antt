@@ -5,7 +5,7 @@ use Rattle.std.proofs.lemmas.List.{take_more, length_push, map-append, get_or_de
 use Rattle.std.proofs.lemmas.Bool.{cases_eq}
 use Rattle.errors.specs.declared.denial.Denial.{Denial}
 use Rattle.errors.specs.declared.denial.Denial.TheVariants.{FaultyChain}
-use Rattle.errors.specs.Denials.{denial_number, First}
+use Rattle.errors.specs.Denials.{IsBefore, First}
 use Rattle.errors.proofs.Firsts.{denies}
 use Rattle.fixed_vec.specs.declared.fixed_vec.FixedVec.{FixedVec}
 use Rattle.atn_graph.specs.Net.{Net}
@@ -37,7 +37,7 @@ module _ (n : Net) (chain : List ℕ) where
 pub faulty_first : (n : Net) (chain : List ℕ) → Faulty n chain → First (ChainFault n chain) FaultyChain
 faulty_first n chain f = record { fits = f; none_before = before }
   where
-    before : (d : Denial) → denial_number d < 5 → ChainFault n chain d → ⊥
+    before : (d : Denial) → IsBefore d FaultyChain → ChainFault n chain d → ⊥
     before FaultyChain l f = omega arith
     before _ l f = f
 

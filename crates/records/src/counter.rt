@@ -39,7 +39,13 @@ impl Counter {
 }
 
 impl Listener for Counter {
-    ghost heard = { λ c. record { count = c.heard; latest = c.latest; listed = []; free = [] } };
+    ghost heard = { λ c. record { count = c.heard; latest = c.latest } };
+
+    ghost Kept = { Unit {0} };
+
+    ghost kept = { λ _. tt };
+
+    ghost keeps = { λ _ k. k };
 
     ghost lent = { λ _. [] };
 

@@ -66,7 +66,13 @@ impl<'a> Recorder<'a> {
 }
 
 impl<'a> Listener for Recorder<'a> {
-    ghost heard = { λ r. record { count = r.counter.heard; latest = r.counter.latest; listed = take r.len r.slots.now; free = drop r.len r.slots.now } };
+    ghost heard = { λ r. record { count = r.counter.heard; latest = r.counter.latest } };
+
+    ghost Kept = { Listing };
+
+    ghost kept = { λ r. record { listed = take r.len r.slots.now; free = drop r.len r.slots.now } };
+
+    ghost keeps = { lists };
 
     ghost lent = { λ r. r.slots.ghost_name ∷ [] };
 

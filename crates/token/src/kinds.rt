@@ -1,5 +1,5 @@
 // The two kinds of token: words of a text, and events of a lane.
-ghost use Rattle.std.specs.Prelude.{◌≡◌, true, false, Option, Some, None};
+ghost use Rattle.std.specs.Prelude.{◌≡◌, Bool, true, false, Option, Some, None, is_some};
 ghost use Rattle.token.specs.declared.token_type.Span.{Span};
 ghost use Rattle.token.specs.Kinds.{common_fields};
 
@@ -10,8 +10,11 @@ use crate::token_type::{Span, TokenType};
 pub trait KeptSpan {
     ghost kept: { Self → Option Span };
 
+    ghost has_span: { Bool };
+
     fn kept(&self) -> Option<Span>
-        ensures { result ≡ kept self.now };
+        ensures kept { result ≡ kept self.now }
+        ensures of_its_kind { is_some result ≡ has_span };
 }
 
 #[derive(Clone, Copy, PartialEq, Eq, Debug)]
@@ -39,6 +42,8 @@ pub struct LaneFactory;
 impl KeptSpan for Span {
     ghost kept = { Some };
 
+    ghost has_span = { true };
+
     fn kept(&self) -> Option<Span> {
         Some(*self)
     }
@@ -47,6 +52,8 @@ impl KeptSpan for Span {
 impl KeptSpan for () {
     ghost kept = { λ _. None };
 
+    ghost has_span = { false };
+
     fn kept(&self) -> Option<Span> {
         None
     }
@@ -54,6 +61,8 @@ impl KeptSpan for () {
 
 impl<S: KeptSpan> Token for CommonToken<S> {
     ghost fields = { common_fields S.kept };
+
+    ghost has_span = { S.has_span };
 
     fn token_type(&self) -> TokenType {
         self.token_type
@@ -79,8 +88,6 @@ impl<S: KeptSpan> Token for CommonToken<S> {
 impl TokenFactory for WordFactory {
     type Tok = WordToken;
 
-    ghost has_span = { true };
-
     fn create(
         &self,
         token_type: TokenType,
@@ -103,8 +110,6 @@ impl TokenFactory for WordFactory {
 
 impl TokenFactory for LaneFactory {
     type Tok = LaneToken;
-
-    ghost has_span = { false };
 
     fn create(
         &self,

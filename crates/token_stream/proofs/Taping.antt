@@ -7,7 +7,7 @@ use Rattle.std.proofs.lemmas.List.{get_or-map, get_or_append_left, get_or_push, 
 use Rattle.std.proofs.lemmas.List.FromFn.{get_or-enumerate_from, length-enumerate_from}
 use Rattle.errors.specs.declared.denial.Denial.{Denial}
 use Rattle.errors.specs.declared.denial.Denial.TheVariants.{FaultyTape}
-use Rattle.errors.specs.Denials.{denial_number, First}
+use Rattle.errors.specs.Denials.{IsBefore, First}
 use Rattle.token.specs.Tokens.{Fields, is_eof}
 use Rattle.token_stream.specs.Tapes.{no_token, token_at, Placed, EndsInEof, Sound, TapeFault}
 
@@ -73,6 +73,6 @@ decides_placed {T} fields (x ∷ ys) r all = decides_all P (λ p. P p → ⊥) (
 pub faulty_first : (tape : List Fields) → (Sound tape → ⊥) → First (TapeFault tape) FaultyTape
 faulty_first tape faulty = record { fits = faulty; none_before = before }
   where
-    before : (d : Denial) → denial_number d < 6 → TapeFault tape d → ⊥
+    before : (d : Denial) → IsBefore d FaultyTape → TapeFault tape d → ⊥
     before FaultyTape l f = omega arith
     before _ l f = f

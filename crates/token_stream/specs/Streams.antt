@@ -1,7 +1,7 @@
 -- What a stream shows, and what its questions answer.
 use Rattle.std.specs.Prelude.{◌≡◌, ℕ, ◌-◌, ◌<◌, ◌≤◌, Bool, ◌||◌, List, [], ◌∷◌, length, ℤ, pos, negsuc, filter, Some, ◌==◌, if◌then◌else◌, nat_lt}
 use Rattle.token.specs.Tokens.{Fields, is_eof, own}
-use Rattle.token_stream.specs.Tapes.{token_at, EndsInEof}
+use Rattle.token_stream.specs.Tapes.{token_at, EndsInEof, Sound}
 
 -- the token's own index names it on the tape
 pub record Named (tape : List Fields) (t : Fields) : Type 0 where
@@ -9,8 +9,10 @@ pub record Named (tape : List Fields) (t : Fields) : Type 0 where
   pub inside : own t < length tape
   pub same : token_at tape (own t) ≡ t
 
--- The law of streams: what is shown ends in EOF, own indexes rise strictly, and each names that token of the tape.
+-- The law of streams: the tape is one; what is shown ends in EOF, own indexes rise strictly, and each names that token of the
+-- tape.
 pub record Shows (tape shown : List Fields) : Type 0 where
+  pub sound : Sound tape
   pub ends : EndsInEof shown
   pub rises : (j k : ℕ) → j < k → k < length shown → own (token_at shown j) < own (token_at shown k)
   pub named : (k : ℕ) → k < length shown → Named tape (token_at shown k)
@@ -33,6 +35,11 @@ ahead (negsuc k) ts = 0
 -- the k-th token that is shown
 abbrev pub shown_at : List Fields → ℤ → Fields
 shown_at ts k = token_at ts (ahead k ts)
+
+-- no place of the list has that number
+abbrev pub Outside : ℤ → List Fields → Type 0
+Outside (pos k) ts = length ts ≤ k
+Outside (negsuc k) ts = Unit {0}
 
 -- the token at a place of the tape; outside it the last, which is EOF
 abbrev pub tape_at : List Fields → ℤ → Fields

@@ -1,7 +1,7 @@
 // Streams of tokens.
-ghost use Rattle.std.specs.Prelude.{◌≡◌, Some, List, pos};
-ghost use Rattle.token.specs.Tokens.{Fields};
-ghost use Rattle.token_stream.specs.Streams.{Shows, Keeps, shown_at, tape_at, passed};
+ghost use Rattle.std.specs.Prelude.{◌≡◌, true, Some, List, pos};
+ghost use Rattle.token.specs.Tokens.{Fields, is_eof};
+ghost use Rattle.token_stream.specs.Streams.{Shows, Keeps, Outside, shown_at, tape_at, passed};
 
 use token::token::{Token, TokenFactory};
 use token::token_type::TokenType;
@@ -32,7 +32,7 @@ pub trait IntStream {
 
 // A stream that gives the tokens themselves, which live as long as their tape.
 pub trait TokenStream<'a>: IntStream {
-    type Tok: Token + 'a;
+    type Tok: Token + Drop + 'a;
 
     type Factory: TokenFactory<Tok = Self::Tok>;
 
@@ -46,7 +46,8 @@ pub trait TokenStream<'a>: IntStream {
 
     // The token at a place of the tape; outside it EOF.
     fn get(&self, i: i32) -> &'a Self::Tok
-        ensures { Self.Tok.fields result.now ≡ tape_at (Self.tape self.now) i };
+        ensures token { Self.Tok.fields result.now ≡ tape_at (Self.tape self.now) i }
+        ensures eof_outside { Outside i (Self.tape self.now) → is_eof (Self.Tok.fields result.now).typ ≡ true };
 
     fn factory(&self) -> &Self::Factory
         ensures { result.now ≡ own_factory self.now };

@@ -41,7 +41,7 @@ impl<'a, T: Token, F> IntStream for TokenTable<'a, T, F> {
     }
 }
 
-impl<'a, T: Token + 'a, F: TokenFactory<Tok = T>> TokenStream<'a> for TokenTable<'a, T, F> {
+impl<'a, T: Token + Drop + 'a, F: TokenFactory<Tok = T>> TokenStream<'a> for TokenTable<'a, T, F> {
     type Tok = T;
 
     type Factory = F;
