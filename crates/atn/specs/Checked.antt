@@ -1,8 +1,9 @@
 -- The checked net, when tables are denied one, and what it tells of itself.
-use Rattle.std.specs.Prelude.{◌≡◌, ℕ, ◌<◌, ◌≤◌, List, length, Option, Some, None, MatchOption, nat_lt, if◌then◌else◌, slice_index_or}
+use Rattle.std.specs.Prelude.{◌≡◌, ℕ, ◌<◌, ◌≤◌, List, length, ℤ, pos, negsuc, Option, Some, None, MatchOption, nat_lt, if◌then◌else◌, slice_index_or}
 use Rattle.errors.specs.declared.denial.Denial.{Denial}
 use Rattle.errors.specs.declared.denial.Denial.TheVariants.{ShortTable, OutsideLimits, BrokenRule, LeftRecursion}
 use Rattle.atn_graph.specs.declared.atn_state.StateKind.{StateKind}
+use Rattle.atn_graph.specs.Kinds.{state_number}
 use Rattle.atn_graph.specs.Tables.{Rows}
 use Rattle.atn_graph.specs.Net.{Net, net, size, rule_at, state_at}
 use Rattle.atn_graph.specs.Written.{Writes}
@@ -25,9 +26,27 @@ Fault t _ = ⊥
 abbrev pub kind_of : Net → ℕ → Option StateKind
 kind_of n s = if nat_lt s (size n) then Some (state_at n s).kind else None
 
+-- the number by which a kind is answered: 0 if there is none
+abbrev pub kind_number : Option StateKind → ℕ
+kind_number None = 0
+kind_number (Some k) = state_number k
+
+-- so the number of the kind of state s is 0 past the last state
+abbrev pub kind_number_at : Net → ℕ → ℕ
+kind_number_at n s = if nat_lt s (size n) then state_number (state_at n s).kind else 0
+
 -- the start state of rule r, none past the last rule
 abbrev pub start_of : Net → ℕ → Option ℕ
 start_of n r = if nat_lt r (length n.rules) then Some (rule_at n r).start else None
+
+-- the number by which a start state is answered: -1 if there is none
+abbrev pub start_number : Option ℕ → ℤ
+start_number None = negsuc 0
+start_number (Some s) = pos s
+
+-- so the number of the start state of rule r is -1 past the last rule
+abbrev pub start_number_at : Net → ℕ → ℤ
+start_number_at n r = if nat_lt r (length n.rules) then pos (rule_at n r).start else negsuc 0
 
 -- The one with that number, and none exactly past the last; d is what stands past the end of the list.
 abbrev pub Picks : {X : Type 0} → List X → X → ℕ → Option X → Type 0

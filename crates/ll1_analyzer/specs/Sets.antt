@@ -1,5 +1,5 @@
 -- The four sets of token types that may come next.
-use Rattle.std.specs.Prelude.{◌≡◌, ◌≢◌, ℕ, ◌⊎◌, List, [], ◌∷◌, ℤ, negsuc, Contains}
+use Rattle.std.specs.Prelude.{◌≡◌, ℕ, ◌⊎◌, List, [], ◌∷◌, ℤ, negsuc, Contains}
 use Rattle.atn_graph.specs.Net.{Net}
 use Rattle.atn.specs.Walks.{Stop, Walk}
 use Rattle.atn.specs.Labels.{TakesAt}
@@ -24,26 +24,33 @@ pub record EndsOnStop (n : Net) (s : ℕ) (p : List ℕ) : Type 0 where
   pub walk : Walk n s p state []
   pub stop : Stop n state
 
--- The within-rule set of s: the types that walks on an empty pile can end with, and EPSILON if one can end on a stop state.
-abbrev pub Within : Net → ℕ → ℤ → Type 0
-Within n s x = EndsWith n s [] x ⊎ ((x ≡ epsilon) × EndsOnStop n s [])
+-- The within-rule set of s is two things: the types that walks on an empty pile can end with, and apart from them whether one
+-- can end on a stop state.
+abbrev pub Types : Net → ℕ → ℤ → Type 0
+Types n s x = EndsWith n s [] x
 
--- The in-context set of s: walks begin with the follow states of the open rules piled, innermost on top; EOF stands for EPSILON.
+abbrev pub CanEnd : Net → ℕ → Type 0
+CanEnd n s = EndsOnStop n s []
+
+-- Both as one set: EPSILON stands in it for the end.
+abbrev pub Within : Net → ℕ → ℤ → Type 0
+Within n s x = Types n s x ⊎ ((x ≡ epsilon) × CanEnd n s)
+
+-- The in-context set of s: walks begin with the follow states of the open rules piled, innermost on top; EOF stands for the end.
 abbrev pub InContext : Net → ℕ → List ℕ → ℤ → Type 0
 InContext n s follows x = EndsWith n s follows x ⊎ ((x ≡ eof) × EndsOnStop n s follows)
 
--- The within-rule sets of states in their order without EPSILON, going on only while the last set holds EPSILON; EOF past the last.
+-- The types of states in their order, going on only while a walk from the last can end; EOF past the last.
 abbrev pub Joined : Net → List ℕ → ℤ → Type 0
 Joined n [] x = x ≡ eof
-Joined n (s ∷ ss) x = ((x ≢ epsilon) × Within n s x) ⊎ (Within n s epsilon × Joined n ss x)
+Joined n (s ∷ ss) x = Types n s x ⊎ (CanEnd n s × Joined n ss x)
 
--- The expected set of s: its own within-rule set, joined with those of the follow states of the open rules.
+-- The expected set of s: its own types, joined with those of the follow states of the open rules.
 abbrev pub Expected : Net → ℕ → List ℕ → ℤ → Type 0
 Expected n s follows x = Joined n (s ∷ follows) x
 
--- The recovery set: the within-rule sets of all follow states of the open rules, without EPSILON.
+-- The recovery set: the types of all follow states of the open rules.
 pub record Recovery (n : Net) (follows : List ℕ) (x : ℤ) : Type 0 where
   pub state : ℕ
   pub listed : Contains follows state
-  pub within : Within n state x
-  pub some : x ≢ epsilon
+  pub types : Types n state x

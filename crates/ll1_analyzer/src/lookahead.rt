@@ -1,7 +1,7 @@
 // What is asked of a net while a parser runs.
 ghost use Rattle.std.specs.Prelude.{◌≡◌};
 ghost use Rattle.atn.specs.declared.atn.Atn.{Atn};
-ghost use Rattle.atn.specs.Checked.{net_of, kind_of, start_of};
+ghost use Rattle.atn.specs.Checked.{net_of, kind_of, kind_number, kind_number_at, start_of, start_number, start_number_at};
 ghost use Rattle.atn_graph.specs.Net.{state_at, edges_of};
 ghost use Rattle.ll1_analyzer.specs.Answers.{HoldsExactly, Keeps};
 ghost use Rattle.ll1_analyzer.specs.Sets.{Within};
@@ -34,7 +34,8 @@ pub trait Lookahead {
         ensures answers { agrees self.old → HoldsExactly result (Within (net_of (atn self.old)) s) };
 
     fn kind(&self, s: usize) -> Option<StateKind>
-        ensures { result ≡ kind_of (net_of (atn self.now)) s }
+        ensures kind { result ≡ kind_of (net_of (atn self.now)) s }
+        ensures number { kind_number result ≡ kind_number_at (net_of (atn self.now)) s }
     {
         self.atn().state_kind(s)
     }
@@ -53,7 +54,8 @@ pub trait Lookahead {
     }
 
     fn start(&self, r: usize) -> Option<usize>
-        ensures { result ≡ start_of (net_of (atn self.now)) r }
+        ensures start { result ≡ start_of (net_of (atn self.now)) r }
+        ensures number { start_number result ≡ start_number_at (net_of (atn self.now)) r }
     {
         self.atn().rule_start(r)
     }

@@ -1,7 +1,8 @@
 // The four sets of token types that may come next, over any lookahead.
-ghost use Rattle.std.specs.Prelude.{◌≡◌, ◌∷◌, OnErr};
+ghost use Rattle.std.specs.Prelude.{◌≡◌, ◌∷◌, IfOk, OnErr};
+ghost use Rattle.errors.specs.Denials.{DeniesFirst};
 ghost use Rattle.atn.specs.Checked.{net_of};
-ghost use Rattle.ll1_analyzer.specs.Answers.{Answers, HoldsExactly, Keeps};
+ghost use Rattle.ll1_analyzer.specs.Answers.{HoldsExactly, Keeps};
 ghost use Rattle.ll1_analyzer.specs.Chains.{follow_states, StateFault, ChainFault, Fault};
 ghost use Rattle.ll1_analyzer.specs.Sets.{Within, InContext, Joined, Expected, Recovery};
 
@@ -14,7 +15,8 @@ use interval_set::set::IntervalSet;
 pub fn next_tokens<L: Lookahead>(l: &mut L, s: usize) -> Result<IntervalSet, Denial>
     ensures keeps { Keeps L.atn L.agrees l.old l.new }
     ensures denied_alters_nothing { OnErr result (l.new ≡ l.old) }
-    ensures answers { L.agrees l.old → let n = net_of (L.atn l.old) in Answers (StateFault n s) (Within n s) result }
+    ensures verdict { DeniesFirst (StateFault (net_of (L.atn l.old)) s) result }
+    ensures holds { L.agrees l.old → IfOk result (λ set. HoldsExactly set (Within (net_of (L.atn l.old)) s)) }
 {
     l.kind(s).ok_or(Denial::StateOutside)?;
     Ok(l.within(s))
@@ -50,8 +52,9 @@ pub fn get_expected_tokens<L: Lookahead>(
 ) -> Result<IntervalSet, Denial>
     ensures keeps { Keeps L.atn L.agrees l.old l.new }
     ensures denied_alters_nothing { OnErr result (l.new ≡ l.old) }
-    ensures answers { L.agrees l.old → let n = net_of (L.atn l.old) in
-        Answers (Fault n s chain.now) (Expected n s (follow_states n chain.now)) result }
+    ensures verdict { DeniesFirst (Fault (net_of (L.atn l.old)) s chain.now) result }
+    ensures holds { L.agrees l.old → let n = net_of (L.atn l.old) in
+        IfOk result (λ set. HoldsExactly set (Expected n s (follow_states n chain.now))) }
 {
     let follows = follow_list(l, chain)?;
     l.kind(s).ok_or(Denial::StateOutside)?;
@@ -67,8 +70,9 @@ pub fn next_tokens_in_ctx<L: Lookahead>(
 ) -> Result<IntervalSet, Denial>
     ensures keeps { Keeps L.atn L.agrees l.old l.new }
     ensures denied_alters_nothing { OnErr result (l.new ≡ l.old) }
-    ensures answers { L.agrees l.old → let n = net_of (L.atn l.old) in
-        Answers (Fault n s chain.now) (InContext n s (follow_states n chain.now)) result }
+    ensures verdict { DeniesFirst (Fault (net_of (L.atn l.old)) s chain.now) result }
+    ensures holds { L.agrees l.old → let n = net_of (L.atn l.old) in
+        IfOk result (λ set. HoldsExactly set (InContext n s (follow_states n chain.now))) }
 {
     get_expected_tokens(l, s, chain)
 }
@@ -80,8 +84,9 @@ pub fn get_error_recovery_set<L: Lookahead>(
 ) -> Result<IntervalSet, Denial>
     ensures keeps { Keeps L.atn L.agrees l.old l.new }
     ensures denied_alters_nothing { OnErr result (l.new ≡ l.old) }
-    ensures answers { L.agrees l.old → let n = net_of (L.atn l.old) in
-        Answers (ChainFault n chain.now) (Recovery n (follow_states n chain.now)) result }
+    ensures verdict { DeniesFirst (ChainFault (net_of (L.atn l.old)) chain.now) result }
+    ensures holds { L.agrees l.old → let n = net_of (L.atn l.old) in
+        IfOk result (λ set. HoldsExactly set (Recovery n (follow_states n chain.now))) }
 {
     let follows = follow_list(l, chain)?;
     let mut set = IntervalSet::new();

@@ -2,7 +2,7 @@
 ghost use Rattle.std.specs.Prelude.{◌≡◌, ◌≤◌, false, ℤ};
 ghost use Rattle.interval_set.specs.Intervals.{smallest};
 ghost use Rattle.interval_set.specs.Members.{holds};
-ghost use Rattle.records.specs.Reports.{report_number, expects, types_in, IsSmallest};
+ghost use Rattle.records.specs.Reports.{report_number, expects, report_at, smallest_type};
 
 use interval_set::set::IntervalSet;
 use token::token_type::TokenType;
@@ -48,7 +48,7 @@ fn types_of(expected: &IntervalSet) -> IntervalSet
 
 fn smallest_of(types: &IntervalSet) -> TokenType
     requires { holds types.now smallest ≡ false }
-    ensures { IsSmallest (holds types.now) result }
+    ensures { result ≡ smallest_type (holds types.now) }
 {
     let Some(smallest) = types.get_min() else {
         return TokenType::Of(0);
@@ -67,11 +67,8 @@ impl Report {
         position: (u32, u32),
         expected: &IntervalSet,
     ) -> Report
-        ensures kind { result.kind ≡ kind }
-        ensures token { (result.index ≡ index) × (result.line ≡ position.0) × (result.column ≡ position.1) }
-        ensures count { result.expected ≡ types_in (expects expected.now) }
+        ensures report { result ≡ report_at kind index position (expects expected.now) }
         ensures few { result.expected ≤ 257 }
-        ensures smallest { IsSmallest (expects expected.now) result.smallest }
     {
         let types = types_of(expected);
         let (line, column) = position;
