@@ -1,22 +1,28 @@
 -- The sets of types by which the parser repairs, as tests of a type's number.
-use Rattle.std.specs.Prelude.{ℕ, Bool, not, ◌&&◌, ◌||◌, true, List, [], ◌∷◌, ℤ, Decides}
+use Rattle.std.specs.Prelude.{ℕ, Bool, false, ◌&&◌, ◌||◌, List, [], ◌∷◌, ℤ, Decides}
 use Rattle.std.specs.List.{list_any}
 use Rattle.std.specs.Ordering.{int_eq}
 use Rattle.atn_graph.specs.Net.{Net}
-use Rattle.ll1_analyzer.specs.Sets.{eof, epsilon, Within}
+use Rattle.ll1_analyzer.specs.Sets.{eof, epsilon, Types, CanEnd}
 
--- the within-rule set of each state
-abbrev pub WithinSets : Type 0
-WithinSets = ℕ → ℤ → Bool
+-- Of each state: with which types walks on an empty pile can end, and whether one can end on a stop state.
+pub record WithinSets : Type 0 where
+  pub types : ℕ → ℤ → Bool
+  pub end : ℕ → Bool
 
 -- They are those of the net, by walks.
-abbrev pub Agree : Net → WithinSets → Type 0
-Agree n w = (s : ℕ) (x : ℤ) → Decides (w s x) (Within n s x)
+pub record Agree (n : Net) (w : WithinSets) : Type 0 where
+  pub types : (s : ℕ) (x : ℤ) → Decides (w.types s x) (Types n s x)
+  pub ends : (s : ℕ) → Decides (w.end s) (CanEnd n s)
 
--- The within-rule sets of states in their order without EPSILON, going on only while the last set holds EPSILON; EOF past the last.
+-- both as the one set that a lookahead answers, where EPSILON stands for the end
+abbrev pub within : WithinSets → ℕ → ℤ → Bool
+within w s x = w.types s x || (int_eq x epsilon && w.end s)
+
+-- The types of states in their order, going on only while a walk from the last can end; EOF past the last.
 abbrev pub joined : WithinSets → List ℕ → ℤ → Bool
 joined w [] x = int_eq x eof
-joined w (s ∷ ss) x = (not (int_eq x epsilon) && w s x) || (w s epsilon && joined w ss x)
+joined w (s ∷ ss) x = w.types s x || (w.end s && joined w ss x)
 
 -- the expected set of a state, and its in-context set: they hold the same types
 abbrev pub expected : WithinSets → ℕ → List ℕ → ℤ → Bool
@@ -24,8 +30,8 @@ expected w s follows = joined w (s ∷ follows)
 
 -- the types that may follow an open rule
 abbrev pub recovery : WithinSets → List ℕ → ℤ → Bool
-recovery w follows x = not (int_eq x epsilon) && list_any (λ f. w f x) follows
+recovery w follows x = list_any (λ f. w.types f x) follows
 
 -- no type
 abbrev pub no_types : ℤ → Bool
-no_types x = not true
+no_types x = false
