@@ -1,23 +1,22 @@
 -- What matching and sync do to the notes, and what they answer.
 use Rattle.std.proofs.Common.{◌≡◌, ℕ, Bool, true, false, not, ◌&&◌, ◌||◌, ◌==◌, ◌⊎◌, List, ◌∷◌, ℤ, Option, Some, sym, refl, ap, ◌∙◌, inl, inr}
 use Rattle.std.proofs.lemmas.Bool.{cond_both, both_ways, cases_Bool, and_right, eq-eqb}
-use Rattle.std.specs.Ordering.{int_eq}
 use Rattle.atn_graph.specs.Net.{Net}
-use Rattle.ll1_analyzer.specs.Sets.{epsilon}
 use Rattle.records.specs.declared.leaf.LeafKind.TheVariants.{Error}
-use Rattle.records.specs.declared.report.ReportKind.TheVariants.{UnwantedToken, MissingToken}
 use Rattle.token.specs.Tokens.{Fields, type_number, is_eof, own}
 use Rattle.token_stream.specs.Tapes.{token_at, EndsInEof}
 use Rattle.token_stream.specs.Streams.{passed}
 use Rattle.recovery_model.specs.Calls.{Token, Done}
 use Rattle.recovery_model.specs.Sets.{WithinSets, joined}
 use Rattle.recovery_model.specs.Views.{View, Pair, current, place, ahead, here, follows, own_pair}
-use Rattle.recovery_model.specs.Passing.{before, pass, pass_many, report_of, reported, ended}
-use Rattle.recovery_model.specs.Repairs.{Outcome, does, expects, is_extra, is_missing, made_up, struck, inserted, mismatch_at, mismatches, takes, repairs, matched}
-use Rattle.recovery_model.specs.Syncs.{Choice, Begins, GoesBack, Neither, choice_here, in_repair, may_come, may_be_nothing, stops_at, acts, syncs}
+use Rattle.recovery_model.specs.Passing.{Reason, Taken, Deleted, Searched, before, pass, pass_many, in_repair, begun, given, ended}
+use Rattle.recovery_model.specs.Outcomes.{Outcome, does, telling}
+use Rattle.recovery_model.specs.Repairs.{expects, is_extra, is_missing, made_up, unwanted, missing, struck, inserted, mismatch_at, mismatches, takes, repairs, matched}
+use Rattle.recovery_model.specs.Syncs.{Choice, Begins, GoesBack, Neither, choice_here, may_come, may_be_nothing, stops_at, acts, syncs}
 use Rattle.recovery_model.specs.Histories.{is_accepted, is_of_the_tape, begins_choice}
 use Rattle.recovery_model.proofs.Shown.{Rises, Numbered, onward_ends, onward_numbered, passed_moves, ahead_of_eof}
-use Rattle.recovery_model.proofs.Moves.{Same, Cleared, same_self, same_on, cleared_on, cleared_ended, same_add, same_pass, same_many, same_reported, reported_shown}
+use Rattle.recovery_model.proofs.Cases.{by_match, by_acts, by_sync}
+use Rattle.recovery_model.proofs.Moves.{Same, Cleared, same_self, same_on, cleared_on, cleared_ended, same_add, same_pass, same_many, same_begun}
 
 -- a token of the tape is answered exactly if the notes are cleared
 abbrev pub Matches : View → Outcome → Type 0
@@ -30,40 +29,29 @@ module _ (v : View) (ends : EndsInEof v.shown) (numbered : Numbered v.shown) whe
   taken : (u : View) → Cleared v u → Matches v (takes u)
   taken u c =
       let still = onward_ends v.shown u.shown ends c.onward in
-      inl (cleared_on v u (pass u) c (same_pass u still), of_the_tape (current u) (onward_numbered v.shown u.shown numbered c.onward 0 still.some))
+      inl (cleared_on v u (pass Taken u) c (same_pass Taken u still), of_the_tape (current u) (onward_numbered v.shown u.shown numbered c.onward 0 still.some))
 
-  cleared_struck : (n : Net) (w : WithinSets) → Cleared v (struck n w v)
-  cleared_struck n w =
-      let r = report_of UnwantedToken (current v) (expects n w v) in
-      let one = same_reported r v ends in
-      cleared_ended v (pass (reported r v)) (same_on v (reported r v) _ one (same_pass (reported r v) (onward_ends v.shown (reported r v).shown ends one.onward)))
+  cleared_struck : Cleared v (struck v)
+  cleared_struck = let u = begun v in cleared_ended v (pass Deleted u) (same_on v u _ (same_begun v ends) (same_pass Deleted u ends))
 
   same_inserted : (n : Net) (w : WithinSets) → Same v (inserted n w v)
   same_inserted n w =
-      let r = report_of MissingToken (current v) (expects n w v) in
-      let one = same_reported r v ends in
-      same_on v (reported r v) _ one (same_add Error (made_up n w v) (reported r v) (onward_ends v.shown (reported r v).shown ends one.onward))
+      let u = begun v in same_on v u _ (same_begun v ends) (same_add Error (made_up n w v) u ends)
 
   still_same : Same v v
   still_same = same_self v ends
 
-  pub matched_so : (fits : Bool) (n : Net) (w : WithinSets) → Matches v (matched fits n w v)
-  matched_so fits n w =
-      cond_both fits (takes (ended v)) (repairs n w v) (Matches v)
-      (λ e. taken (ended v) (cleared_ended v v still_same))
-      (λ e. cond_both (is_extra n w v) (takes (struck n w v)) _ (Matches v)
-      (λ e. taken (struck n w v) (cleared_struck n w))
-      (λ e. cond_both (is_missing n w v) (does (inserted n w v) (Token (made_up n w v))) (mismatches _ v) (Matches v)
-      (λ e. inr (same_inserted n w, refl))
-      (λ e. inr (record { standing = refl; last = refl; marks = refl; onward = still_same.onward }, refl))))
+  pub matched_so : (fit : Bool) (n : Net) (w : WithinSets) → Matches v (matched fit n w v)
+  matched_so fit n w =
+      by_match (Matches v) fit n w v
+      (λ _. taken (ended v) (cleared_ended v v still_same))
+      (λ _. taken (struck v) cleared_struck)
+      (λ _. inr (same_inserted n w, refl))
+      (inr (record { standing = refl; last = refl; marks = refl; onward = still_same.onward }, refl))
 
--- a type is not expected where neither it nor EPSILON is in the state's own set
-joined_here : (w : WithinSets) (s : ℕ) (ss : List ℕ) (x : ℤ) → w s x ≡ false → w s epsilon ≡ false → joined w (s ∷ ss) x ≡ false
-joined_here w s ss x e f = rw (e, f) (at (not (int_eq x epsilon)))
-  where
-    at : (b : Bool) → ((b && false) || (false && joined w ss x)) ≡ false
-    at true = refl
-    at false = refl
+-- a type is not expected where it is none of the state's own and no walk can end there
+joined_here : (w : WithinSets) (s : ℕ) (ss : List ℕ) (x : ℤ) → w.types s x ≡ false → w.end s ≡ false → joined w (s ∷ ss) x ≡ false
+joined_here w s ss x e f = rw (e, f) refl
 
 -- a sync clears the notes exactly where a choice begins and another place is reached
 pub record Clears (n : Net) (v : View) (o : Outcome) : Type 0 where
@@ -92,30 +80,21 @@ module _ (n : Net) (w : WithinSets) (v : View) (ends : EndsInEof v.shown) (rises
           absurd (both_ways (is_extra n w v) (ap (λ t. expects n w v (type_number t.typ)) (ahead_of_eof v.shown ends e) ∙ none) extra)
       at (inr e) = e
 
-  pub struck_moves : is_eof (current v).typ ≡ false → place (struck n w v) ≡ place v → ⊥
-  struck_moves e same = passed_moves v.shown ends rises e (ap (λ ts. own (token_at (passed ts) 0)) (sym (reported_shown (report_of UnwantedToken (current v) (expects n w v)) v)) ∙ same)
+  pub struck_moves : is_eof (current v).typ ≡ false → place (struck v) ≡ place v → ⊥
+  struck_moves e same = passed_moves v.shown ends rises e same
 
-  acted : (c : Choice) → choice_here n v ≡ c → may_come w v ≡ false → may_be_nothing w v ≡ false → Syncs n v (acts c n w v)
-  acted Begins is come nothing =
-      cond_both (is_extra n w v) (does (struck n w v) Done) (mismatches (mismatch_at (own_pair v) v) v) (Syncs n v)
-      (λ e. inl (record { cleared = cleared_struck v ends numbered n w; accepted = refl; begins = rw is refl; moves = struck_moves (not_eof come nothing e) }))
-      (λ e. in_place _ (record { standing = refl; last = refl; marks = refl; onward = (still_same v ends numbered).onward }) refl)
-  acted GoesBack is come nothing =
-      let r = report_of UnwantedToken (current v) (expects n w v) in
-      let one = same_reported r v ends in
+  acted : may_come w v ≡ false → may_be_nothing w v ≡ false → Syncs n v (acts (choice_here n v) n w v)
+  acted come nothing =
       let k = before (stops_at n w v) v.shown in
-      inr (record { same = same_on v (reported r v) (pass_many k (reported r v)) one (same_many k (reported r v) (onward_ends v.shown (reported r v).shown ends one.onward)); ends_nothing = rw is refl })
-  acted Neither is come nothing = in_place _ (still_same v ends numbered) refl
+      let u = begun v in
+      by_acts (Syncs n v) (choice_here n v) n w v
+      (λ is e. inl (record { cleared = cleared_struck v ends numbered; accepted = refl; begins = rw is refl; moves = struck_moves (not_eof come nothing e) }))
+      (λ _. in_place _ (record { standing = refl; last = refl; marks = refl; onward = (still_same v ends numbered).onward }) refl)
+      (λ is. inr (record { same = same_on v u (pass_many Searched k u) (same_begun v ends) (same_many Searched k u ends); ends_nothing = rw is refl }))
+      (λ _. in_place _ (still_same v ends numbered) refl)
 
   pub syncs_so : Syncs n v (syncs n w v)
-  syncs_so =
-      cond_both (in_repair v) (does v Done) _ (Syncs n v)
-      (λ e. in_place _ (still_same v ends numbered) refl)
-      (λ e. cond_both (may_come w v) (does _ Done) _ (Syncs n v)
-      (λ e. in_place _ noted refl)
-      (λ come. cond_both (may_be_nothing w v) (does _ Done) (acts (choice_here n v) n w v) (Syncs n v)
-      (λ e. in_place _ noted refl)
-      (λ nothing. acted (choice_here n v) refl come nothing)))
+  syncs_so = by_sync (Syncs n v) n w v (λ _. in_place _ (still_same v ends numbered) refl) (λ _. in_place _ noted refl) (λ _. in_place _ noted refl) acted
     where
       noted : {p : Option Pair} → Same v (record v { noted = record v.noted { saved = p } })
       noted = record { standing = refl; last = refl; marks = refl; onward = (still_same v ends numbered).onward }

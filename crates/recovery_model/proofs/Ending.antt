@@ -10,8 +10,8 @@ use Rattle.recovery_model.specs.declared.call.Call.{Call}
 use Rattle.recovery_model.specs.declared.call.Call.TheVariants.{State, Enter, Leave, Match, Wildcard, Sync, Report, Recover}
 use Rattle.recovery_model.specs.Sets.{WithinSets, Agree, recovery}
 use Rattle.recovery_model.specs.Views.{View, place, follows}
-use Rattle.recovery_model.specs.Passing.{pass_many}
-use Rattle.recovery_model.specs.Repairs.{Outcome}
+use Rattle.recovery_model.specs.Passing.{Searched, pass_many}
+use Rattle.recovery_model.specs.Outcomes.{Outcome}
 use Rattle.recovery_model.specs.Recovering.{unstuck, searching, search_length, recovers}
 use Rattle.recovery_model.specs.Steps.{step}
 use Rattle.recovery_model.specs.Journals.{Happened, happens}
@@ -21,7 +21,8 @@ use Rattle.recovery_model.specs.Notes.{Tells}
 use Rattle.recovery_model.proofs.Fitting.{Fit}
 use Rattle.recovery_model.proofs.Shown.{onward_ends, onward_from, onward_more}
 use Rattle.recovery_model.proofs.Searching.{Stops, many_shown, stops_before, decides_recovery, same_chain}
-use Rattle.recovery_model.proofs.Telling.{told, by_step, onward, ends, same_unstuck, searches_from}
+use Rattle.recovery_model.proofs.Telling.{told, onward, ends, same_unstuck, searches_from}
+use Rattle.recovery_model.proofs.Cases.{by_step}
 
 module _ (tape first : List Fields) (shows : Shows tape first) (n : Net) (fit : Fit n) (h : List Happened) (v : View) (t : Tells n first h v) (w : WithinSets) (agree : Agree n w) where
   abbrev Ends : Outcome → Type 0
@@ -42,17 +43,17 @@ module _ (tape first : List Fields) (shows : Shows tape first) (n : Net) (fit : 
       let types = recovery w (follows n u) in
       let away = (same_unstuck tape first shows n fit h v t).onward in
       let k = search_length n w u in
-      let s : Stops types u.shown (pass_many k u).shown = subst (Stops types u.shown) (sym (many_shown k u)) (stops_before types u.shown (onward_ends v.shown u.shown (ends tape first shows n fit h v t) away)) in
+      let s : Stops types u.shown (pass_many Searched k u).shown = subst (Stops types u.shown) (sym (many_shown Searched k u)) (stops_before types u.shown (onward_ends v.shown u.shown (ends tape first shows n fit h v t) away)) in
       record {
         passed = s.passed;
-        rest = (pass_many k u).shown;
+        rest = (pass_many Searched k u).shown;
         parts =
             ap (λ q. shown_from q first) (sym (searches_from tape first shows n fit h v t (recovers n w v)))
             ∙ sym (onward_from first u.shown shows.rises (onward_more first v.shown u.shown (onward tape first shows n fit h v t) away))
             ∙ s.parts;
         place = refl;
         some = s.some;
-        stops = stop (token_at (pass_many k u).shown 0) s.stops;
+        stops = stop (token_at (pass_many Searched k u).shown 0) s.stops;
         passes = λ j l. pass (token_at s.passed j) (s.passes j l);
       }
     where

@@ -6,30 +6,25 @@ use Rattle.std.proofs.lemmas.List.Elements.{filter-append}
 use Rattle.atn_graph.specs.Net.{Net}
 use Rattle.records.specs.declared.leaf.LeafKind.{LeafKind}
 use Rattle.records.specs.declared.leaf.LeafKind.TheVariants.{Error}
-use Rattle.records.specs.declared.report.Report.{Report as ReportRecord}
-use Rattle.records.specs.declared.report.ReportKind.TheVariants.{UnwantedToken, MissingToken}
 use Rattle.records.specs.Leaves.{Said as Leaf}
 use Rattle.token.specs.Tokens.{Fields, is_eof, own}
 use Rattle.token_stream.specs.Tapes.{no_token, token_at}
 use Rattle.token_stream.specs.Streams.{passed}
 use Rattle.recovery_model.specs.declared.call.Call.{Call}
 use Rattle.recovery_model.specs.declared.call.Call.TheVariants.{State, Enter, Leave, Match, Wildcard, Sync, Report, Recover}
-use Rattle.recovery_model.specs.declared.notes.Mode.{Mode}
-use Rattle.recovery_model.specs.declared.notes.Mode.TheVariants.{Settled, InRepair}
-use Rattle.recovery_model.specs.declared.open_rule.OpenRule.{OpenRule}
-use Rattle.recovery_model.specs.Calls.{Kept, Token, Done}
+use Rattle.recovery_model.specs.Calls.{fits}
 use Rattle.recovery_model.specs.Sets.{WithinSets}
-use Rattle.recovery_model.specs.Views.{View, current, own_pair}
-use Rattle.recovery_model.specs.Passing.{leaf, add, pass, pass_many, before, report_of, reported, ended}
-use Rattle.recovery_model.specs.Repairs.{Outcome, does, expects, is_extra, is_missing, made_up, struck, inserted, mismatch_at, mismatches, takes, repairs, matched, matches, matches_any}
-use Rattle.recovery_model.specs.Syncs.{Choice, Begins, GoesBack, Neither, choice_here, in_repair, may_come, may_be_nothing, stops_at, acts, syncs}
-use Rattle.recovery_model.specs.Recovering.{repeats, unstuck, searching, search_length, recovers}
-use Rattle.recovery_model.specs.Steps.{left, reports, expected_at, accepted, step}
+use Rattle.recovery_model.specs.Views.{View, current, ahead}
+use Rattle.recovery_model.specs.Passing.{Reason, Taken, Deleted, Searched, leaf, add, pass, pass_many, before, begun, ended}
+use Rattle.recovery_model.specs.Outcomes.{Outcome}
+use Rattle.recovery_model.specs.Repairs.{made_up, struck, inserted, matched}
+use Rattle.recovery_model.specs.Syncs.{Choice, choice_here, stops_at, acts, syncs}
+use Rattle.recovery_model.specs.Recovering.{unstuck, searching, search_length, recovers}
+use Rattle.recovery_model.specs.Steps.{left, reports, accepted, step}
 use Rattle.recovery_model.specs.Journals.{run}
 use Rattle.recovery_model.specs.Law.{leaf_mark, token_mark, is_of_a_dropped}
 use Rattle.recovery_model.proofs.Shown.{Numbered}
-use Rattle.recovery_model.proofs.Moves.{reported_shown}
-use Rattle.recovery_model.proofs.Telling.{by_step, of_kind, left_none, left_one, reports_none, reports_kept}
+use Rattle.recovery_model.proofs.Cases.{by_step, by_left, by_report, by_match, by_acts, by_sync, by_guard}
 
 -- leaves were added and tokens dropped
 pub record Adds (v u : View) : Type 0 where
@@ -82,14 +77,15 @@ adds_leaf kind v numbered =
     let d = drops kind v v.shown numbered in
     record { added = leaf kind (current v) v ∷ []; leaves = refl; dropped = d.dropped; shown = d.shown; marks = d.marks }
 
-pub adds_pass : (v : View) → Numbered v.shown → Adds v (pass v)
-adds_pass v numbered = adds_leaf _ v numbered
+pub adds_pass : (why : Reason) (v : View) → Numbered v.shown → Adds v (pass why v)
+adds_pass why v numbered = adds_leaf _ v numbered
 
-pub adds_many : (k : ℕ) (v : View) → Numbered v.shown → Adds v (pass_many k v)
-adds_many zero v numbered = adds_none v v refl refl
-adds_many (suc k) v numbered =
-    let one = adds_pass v numbered in
-    adds_then v (pass v) (pass_many k (pass v)) one (adds_many k (pass v) (adds_numbered v (pass v) numbered one))
+pub adds_many : (why : Reason) (k : ℕ) (v : View) → Numbered v.shown → Adds v (pass_many why k v)
+adds_many why zero v numbered = adds_none v v refl refl
+adds_many why (suc k) v numbered =
+    let one = adds_pass why v numbered in
+    let u = pass why v in
+    adds_then v u (pass_many why k u) one (adds_many why k u (adds_numbered v u numbered one))
 
 -- a made-up token is of no place
 adds_made : (kind : LeafKind) (t : Fields) (v : View) → t.index ≡ None → Adds v (add kind t v)
@@ -98,89 +94,65 @@ adds_made kind t v e = record { added = leaf kind t v ∷ []; leaves = refl; dro
     none : is_of_a_dropped (leaf kind t v) ≡ false
     none = rw e (and_right (not (is_eof t.typ)) false refl)
 
-reported_leaves : (r : ReportRecord) (v : View) → (reported r v).leaves ≡ v.leaves
-reported_leaves r v = at v.noted.mode refl
-  where
-    at : (m : Mode) → v.noted.mode ≡ m → (reported r v).leaves ≡ v.leaves
-    at Settled e = rw e refl
-    at InRepair e = rw e refl
-
-adds_reported : (r : ReportRecord) (v : View) → Adds v (reported r v)
-adds_reported r v = adds_none v (reported r v) (reported_leaves r v) (reported_shown r v)
+adds_begun : (v : View) → Adds v (begun v)
+adds_begun v = adds_none v (begun v) refl refl
 
 module _ (n : Net) (w : WithinSets) (v : View) (numbered : Numbered v.shown) where
-  adds_struck : Adds v (struck n w v)
+  adds_struck : Adds v (struck v)
   adds_struck =
-      let r = report_of UnwantedToken (current v) (expects n w v) in
-      let one = adds_reported r v in
-      let two = adds_then v (reported r v) (pass (reported r v)) one (adds_pass (reported r v) (adds_numbered v (reported r v) numbered one)) in
-      adds_then v (pass (reported r v)) (struck n w v) two (adds_none (pass (reported r v)) (struck n w v) refl refl)
+      let u = begun v in
+      let two = adds_then v u (pass Deleted u) (adds_begun v) (adds_pass Deleted u numbered) in
+      adds_then v (pass Deleted u) (struck v) two (adds_none (pass Deleted u) (struck v) refl refl)
 
   adds_inserted : Adds v (inserted n w v)
-  adds_inserted =
-      let r = report_of MissingToken (current v) (expects n w v) in
-      adds_then v (reported r v) (inserted n w v) (adds_reported r v) (adds_made Error (made_up n w v) (reported r v) refl)
+  adds_inserted = adds_then v (begun v) (inserted n w v) (adds_begun v) (adds_made Error (made_up n w v) (begun v) refl)
 
-  adds_taken : (u : View) → Adds v u → Adds v (pass u)
-  adds_taken u a = adds_then v u (pass u) a (adds_pass u (adds_numbered v u numbered a))
+  adds_taken : (u : View) → Adds v u → Adds v (pass Taken u)
+  adds_taken u a = adds_then v u (pass Taken u) a (adds_pass Taken u (adds_numbered v u numbered a))
 
   abbrev Does : Outcome → Type 0
   Does o = Adds v o.view
 
-  adds_matched : (fits : Bool) → Does (matched fits n w v)
-  adds_matched fits =
-      cond_both fits (takes (ended v)) (repairs n w v) Does
-      (λ e. adds_taken (ended v) (adds_none v (ended v) refl refl))
-      (λ e. cond_both (is_extra n w v) (takes (struck n w v)) _ Does
-      (λ e. adds_taken (struck n w v) adds_struck)
-      (λ e. cond_both (is_missing n w v) (does (inserted n w v) (Token (made_up n w v))) (mismatches _ v) Does
-      (λ e. adds_inserted)
-      (λ e. adds_none v _ refl refl)))
+  adds_matched : (fit : Bool) → Does (matched fit n w v)
+  adds_matched fit =
+      by_match Does fit n w v
+      (λ _. adds_taken (ended v) (adds_none v (ended v) refl refl))
+      (λ _. adds_taken (struck v) adds_struck)
+      (λ _. adds_inserted)
+      (adds_none v _ refl refl)
 
   adds_acts : (c : Choice) → Does (acts c n w v)
-  adds_acts Begins =
-      cond_both (is_extra n w v) (does (struck n w v) Done) (mismatches (mismatch_at (own_pair v) v) v) Does
-      (λ e. adds_struck)
-      (λ e. adds_none v _ refl refl)
-  adds_acts GoesBack =
-      let r = report_of UnwantedToken (current v) (expects n w v) in
+  adds_acts c =
+      let u = begun v in
       let k = before (stops_at n w v) v.shown in
-      let one = adds_reported r v in
-      adds_then v (reported r v) (pass_many k (reported r v)) one (adds_many k (reported r v) (adds_numbered v (reported r v) numbered one))
-  adds_acts Neither = adds_none v v refl refl
+      by_acts Does c n w v
+      (λ _ _. adds_struck)
+      (λ _. adds_none v _ refl refl)
+      (λ _. adds_then v u (pass_many Searched k u) (adds_begun v) (adds_many Searched k u numbered))
+      (λ _. adds_none v v refl refl)
 
   adds_syncs : Does (syncs n w v)
   adds_syncs =
-      cond_both (in_repair v) (does v Done) _ Does
-      (λ e. adds_none v v refl refl)
-      (λ e. cond_both (may_come w v) (does _ Done) _ Does
-      (λ e. adds_none v _ refl refl)
-      (λ e. cond_both (may_be_nothing w v) (does _ Done) (acts (choice_here n v) n w v) Does
-      (λ e. adds_none v _ refl refl)
-      (λ e. adds_acts (choice_here n v))))
+      by_sync Does n w v
+      (λ _. adds_none v v refl refl)
+      (λ _. adds_none v _ refl refl)
+      (λ _. adds_none v _ refl refl)
+      (λ _ _. adds_acts (choice_here n v))
 
   adds_unstuck : Adds v (unstuck v)
-  adds_unstuck = cond_both (repeats v) (pass v) v (Adds v) (λ e. adds_pass v numbered) (λ e. adds_none v v refl refl)
+  adds_unstuck = by_guard (Adds v) v (λ _. adds_pass Searched v numbered) (λ _. adds_none v v refl refl)
 
   adds_recovers : Does (recovers n w v)
   adds_recovers =
       let u = searching (unstuck v) in
       let a = adds_then v (unstuck v) u adds_unstuck (adds_none (unstuck v) u refl refl) in
-      adds_then v u (pass_many (search_length n w u) u) a (adds_many (search_length n w u) u (adds_numbered v u numbered a))
+      adds_then v u (pass_many Searched (search_length n w u) u) a (adds_many Searched (search_length n w u) u (adds_numbered v u numbered a))
 
   adds_left : Does (left v)
-  adds_left = at v.open_rules refl
-    where
-      at : (os : List OpenRule) → v.open_rules ≡ os → Does (left v)
-      at [] e = subst Does (sym (left_none v e)) (adds_none v v refl refl)
-      at (o ∷ os) e = subst Does (sym (left_one v o os e)) (adds_none v _ refl refl)
+  adds_left = by_left Does v (λ _. adds_none v v refl refl) (λ o os _. adds_none v _ refl refl)
 
-  adds_reports : (k : ℕ) → Adds v (reports n w k v)
-  adds_reports k = at v.kept refl
-    where
-      at : (m : Option Kept) → v.kept ≡ m → Adds v (reports n w k v)
-      at None e = subst (Adds v) (sym (reports_none n w k v e)) (cond_both (k == 2) v _ (Adds v) (λ f. adds_none v v refl refl) (λ f. adds_reported (of_kind k v) v))
-      at (Some m) e = subst (Adds v) (sym (reports_kept n w k v m e)) (cond_both (k == 2) (reported (expected_at n w m) v) _ (Adds v) (λ f. adds_reported (expected_at n w m) v) (λ f. adds_reported (of_kind k v) v))
+  adds_reports : (k : ℕ) → Does (reports n w k v)
+  adds_reports k = by_report Does n w k v (λ _ _. adds_none v v refl refl) (λ t. adds_begun v)
 
   pub adds_step : (c : Call) → Adds v (step n w c v).view
   adds_step c = by_step Does n w c v (λ d. adds_none v v refl refl) (λ none. at c)
@@ -189,8 +161,8 @@ module _ (n : Net) (w : WithinSets) (v : View) (numbered : Numbered v.shown) whe
       at (State s) = adds_none v _ refl refl
       at (Enter r) = adds_none v _ refl refl
       at Leave = adds_left
-      at (Match ty) = adds_matched (matches ty v)
-      at Wildcard = adds_matched (matches_any v)
+      at (Match ty) = adds_matched (fits (Match ty) (ahead v 1))
+      at Wildcard = adds_matched (fits Wildcard (ahead v 1))
       at Sync = adds_syncs
       at (Report k) = adds_reports k
       at Recover = adds_recovers

@@ -1,5 +1,6 @@
 pub mod Shown
 pub mod Moves
+pub mod Cases
 pub mod Doing
 pub mod Fitting
 pub mod Telling

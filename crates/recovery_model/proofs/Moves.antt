@@ -3,12 +3,9 @@ use Rattle.std.proofs.Common.{◌≡◌, ℕ, zero, suc, List, [], ◌∷◌, ma
 use Rattle.token_stream.specs.Tapes.{EndsInEof}
 use Rattle.token.specs.Tokens.{Fields}
 use Rattle.records.specs.declared.leaf.LeafKind.{LeafKind}
-use Rattle.records.specs.declared.report.Report.{Report}
-use Rattle.recovery_model.specs.declared.notes.Mode.{Mode}
-use Rattle.recovery_model.specs.declared.notes.Mode.TheVariants.{Settled, InRepair}
 use Rattle.recovery_model.specs.declared.open_rule.OpenRule.{OpenRule}
 use Rattle.recovery_model.specs.Views.{View, no_marks}
-use Rattle.recovery_model.specs.Passing.{raised, add, pass, pass_many, reported, ended}
+use Rattle.recovery_model.specs.Passing.{Reason, raised, add, pass, pass_many, begun, ended}
 use Rattle.recovery_model.specs.Notes.{stands}
 use Rattle.recovery_model.proofs.Shown.{Onward, onward_by, onward_ends, onward_more, passed_onward}
 
@@ -48,25 +45,15 @@ raised_invoking (o ∷ os) = refl
 pub same_add : (kind : LeafKind) (t : Fields) (v : View) → EndsInEof v.shown → Same v (add kind t v)
 same_add kind t v ends = record { standing = ap (λ is. record { state = v.state; invoking = is }) (raised_invoking v.open_rules); last = refl; marks = refl; onward = still v.shown ends }
 
-pub same_pass : (v : View) → EndsInEof v.shown → Same v (pass v)
-same_pass v ends = record { standing = ap (λ is. record { state = v.state; invoking = is }) (raised_invoking v.open_rules); last = refl; marks = refl; onward = passed_onward v.shown ends }
+pub same_pass : (why : Reason) (v : View) → EndsInEof v.shown → Same v (pass why v)
+same_pass why v ends = record { standing = ap (λ is. record { state = v.state; invoking = is }) (raised_invoking v.open_rules); last = refl; marks = refl; onward = passed_onward v.shown ends }
 
-pub same_many : (k : ℕ) (v : View) → EndsInEof v.shown → Same v (pass_many k v)
-same_many zero v ends = same_self v ends
-same_many (suc k) v ends =
-    let one = same_pass v ends in
-    same_on v (pass v) (pass_many k (pass v)) one (same_many k (pass v) (onward_ends v.shown (pass v).shown ends one.onward))
+pub same_many : (why : Reason) (k : ℕ) (v : View) → EndsInEof v.shown → Same v (pass_many why k v)
+same_many why zero v ends = same_self v ends
+same_many why (suc k) v ends =
+    let one = same_pass why v ends in
+    let u = pass why v in
+    same_on v u (pass_many why k u) one (same_many why k u (onward_ends v.shown u.shown ends one.onward))
 
-pub reported_shown : (r : Report) (v : View) → (reported r v).shown ≡ v.shown
-reported_shown r v = at v.noted.mode refl
-  where
-    at : (m : Mode) → v.noted.mode ≡ m → (reported r v).shown ≡ v.shown
-    at Settled e = rw e refl
-    at InRepair e = rw e refl
-
-pub same_reported : (r : Report) (v : View) → EndsInEof v.shown → Same v (reported r v)
-same_reported r v ends = at v.noted.mode refl
-  where
-    at : (m : Mode) → v.noted.mode ≡ m → Same v (reported r v)
-    at Settled e = rw e (record { standing = refl; last = refl; marks = refl; onward = still v.shown ends })
-    at InRepair e = rw e (record { standing = refl; last = refl; marks = refl; onward = still v.shown ends })
+pub same_begun : (v : View) → EndsInEof v.shown → Same v (begun v)
+same_begun v ends = record { standing = refl; last = refl; marks = refl; onward = still v.shown ends }

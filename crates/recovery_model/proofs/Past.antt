@@ -3,29 +3,29 @@ use Rattle.std.proofs.Common.{◌≡◌, ℕ, ◌+◌, ◌<◌, ◌≤◌, Bool,
 use Rattle.std.proofs.lemmas.Bool.{cond_both, cond-true, and_parts, both_ways, eq-eqb, not-true}
 use Rattle.std.proofs.lemmas.List.{get_or-append-add, length-append}
 use Rattle.atn_graph.specs.Net.{Net}
-use Rattle.records.specs.declared.report.ReportKind.TheVariants.{UnwantedToken}
 use Rattle.token.specs.Tokens.{Fields, is_eof, own}
 use Rattle.token_stream.specs.Tapes.{no_token, token_at, EndsInEof}
 use Rattle.token_stream.specs.Streams.{Shows, passed}
 use Rattle.recovery_model.specs.declared.call.Call.{Call}
 use Rattle.recovery_model.specs.declared.call.Call.TheVariants.{State, Enter, Leave, Match, Wildcard, Sync, Report, Recover}
-use Rattle.recovery_model.specs.declared.open_rule.OpenRule.{OpenRule}
-use Rattle.recovery_model.specs.Calls.{Kept}
+use Rattle.recovery_model.specs.Calls.{fits}
 use Rattle.recovery_model.specs.Sets.{WithinSets}
-use Rattle.recovery_model.specs.Views.{View, current, place}
-use Rattle.recovery_model.specs.Passing.{pass, reported, report_of, ended}
-use Rattle.recovery_model.specs.Repairs.{Outcome, expects, is_extra, is_missing, struck, takes, repairs, matched, matches, matches_any}
+use Rattle.recovery_model.specs.Views.{View, current, place, ahead}
+use Rattle.recovery_model.specs.Passing.{Taken, Searched, pass, ended}
+use Rattle.recovery_model.specs.Outcomes.{Outcome}
+use Rattle.recovery_model.specs.Repairs.{matched}
 use Rattle.recovery_model.specs.Syncs.{syncs}
 use Rattle.recovery_model.specs.Recovering.{unstuck, searching, search_length, recovers}
-use Rattle.recovery_model.specs.Steps.{left, reports, expected_at, accepted, step}
+use Rattle.recovery_model.specs.Steps.{left, reports, accepted, step}
 use Rattle.recovery_model.specs.Journals.{Happened}
 use Rattle.recovery_model.specs.Histories.{is_accepted, is_of_the_tape, begins_choice, present, next_place, ends_repair, is_recover, skips}
 use Rattle.recovery_model.specs.Notes.{Tells}
 use Rattle.recovery_model.proofs.Fitting.{Fit}
+use Rattle.recovery_model.proofs.Cases.{by_step, by_left, by_report, by_match}
 use Rattle.recovery_model.proofs.Shown.{Rises, Numbered, Onward, onward_ends, onward_rises, onward_numbered, onward_more, onward_next, passed_onward, passed_moves}
-use Rattle.recovery_model.proofs.Moves.{same_self, same_many, reported_shown}
+use Rattle.recovery_model.proofs.Moves.{same_self, same_many}
 use Rattle.recovery_model.proofs.Doing.{Matches, matched_so, Syncs, syncs_so}
-use Rattle.recovery_model.proofs.Telling.{told, by_step, of_kind, reports_none, reports_kept, onward, ends, same_unstuck, searches_from}
+use Rattle.recovery_model.proofs.Telling.{told, onward, ends, same_unstuck, searches_from}
 
 -- what is left begins no earlier
 onward_place : (old new : List Fields) → Rises old → Onward old new → own (token_at old 0) ≤ own (token_at new 0)
@@ -44,15 +44,8 @@ passed_past ts new ends rises e o =
     let on : own (token_at (passed ts) 0) ≤ own (token_at new 0) = onward_place (passed ts) new (onward_rises ts (passed ts) rises one) o in
     omega (arith, le, ne, on)
 
-struck_shown : (n : Net) (w : WithinSets) (v : View) → (struck n w v).shown ≡ passed v.shown
-struck_shown n w v = ap passed (reported_shown (report_of UnwantedToken (current v) (expects n w v)) v)
-
 left_shown : (v : View) → (left v).view.shown ≡ v.shown
-left_shown v = at v.open_rules refl
-  where
-    at : (os : List OpenRule) → v.open_rules ≡ os → (left v).view.shown ≡ v.shown
-    at [] e = rw e refl
-    at (o ∷ os) e = rw e refl
+left_shown v = by_left (λ o. o.view.shown ≡ v.shown) v (λ _. refl) (λ o os _. refl)
 
 module _ (v : View) (ends_in : EndsInEof v.shown) (rises : Rises v.shown) where
   -- a token of the tape is answered only where one is passed
@@ -66,20 +59,18 @@ module _ (v : View) (ends_in : EndsInEof v.shown) (rises : Rises v.shown) where
   kept_on = (same_self v ends_in).onward
 
   one_on : Onward (passed v.shown) (passed v.shown)
-  one_on = (same_self (pass v) (onward_ends v.shown (passed v.shown) ends_in (passed_onward v.shown ends_in))).onward
+  one_on = (same_self (pass Taken v) (onward_ends v.shown (passed v.shown) ends_in (passed_onward v.shown ends_in))).onward
 
   two_on : Onward (passed v.shown) (passed (passed v.shown))
   two_on = passed_onward (passed v.shown) (onward_ends v.shown (passed v.shown) ends_in (passed_onward v.shown ends_in))
 
-  matched_past : is_eof (current v).typ ≡ false → (fits : Bool) (n : Net) (w : WithinSets) → Answers (matched fits n w v)
-  matched_past e fits n w =
-      cond_both fits (takes (ended v)) (repairs n w v) Answers
-      (λ f said. past (passed v.shown) e one_on)
-      (λ f. cond_both (is_extra n w v) (takes (struck n w v)) _ Answers
-      (λ g said. past _ e (subst (λ ts. Onward (passed v.shown) (passed ts)) (sym (struck_shown n w v)) two_on))
-      (λ g. cond_both (is_missing n w v) _ _ Answers
-      (λ m said. absurd (both_ways false refl said))
-      (λ m said. absurd (both_ways false refl said))))
+  matched_past : is_eof (current v).typ ≡ false → (fit : Bool) (n : Net) (w : WithinSets) → Answers (matched fit n w v)
+  matched_past e fit n w =
+      by_match Answers fit n w v
+      (λ _ said. past (passed v.shown) e one_on)
+      (λ _ said. past _ e two_on)
+      (λ _ said. absurd (both_ways false refl said))
+      (λ said. absurd (both_ways false refl said))
 
 -- a call that neither ends repair nor recovers, and one that does not recover
 none_passes : (a s : Bool) → ((a && false) || ((a && false) && s)) ≡ true → ⊥
@@ -113,14 +104,8 @@ module _ (tape first : List Fields) (shows : Shows tape first) (n : Net) (fit : 
     of_syncs o (inl s) = s.cleared.onward
     of_syncs o (inr s) = s.same.onward
 
-    of_report : (k : ℕ) (w : WithinSets) → (reports n w k v).shown ≡ v.shown
-    of_report k w = at v.kept refl
-      where
-        at : (m : Option Kept) → v.kept ≡ m → (reports n w k v).shown ≡ v.shown
-        at None e = ap (λ u. u.shown) (reports_none n w k v e) ∙ cond_both (k == 2) v _ (λ u. u.shown ≡ v.shown) (λ f. refl) (λ f. reported_shown (of_kind k v) v)
-        at (Some m) e =
-            ap (λ u. u.shown) (reports_kept n w k v m e)
-            ∙ cond_both (k == 2) (reported (expected_at n w m) v) _ (λ u. u.shown ≡ v.shown) (λ f. reported_shown (expected_at n w m) v) (λ f. reported_shown (of_kind k v) v)
+    of_report : (k : ℕ) (w : WithinSets) → (reports n w k v).view.shown ≡ v.shown
+    of_report k w = by_report (λ o. o.view.shown ≡ v.shown) n w k v (λ _ _. refl) (λ t. refl)
 
     unstuck_on : Onward v.shown (unstuck v).shown
     unstuck_on = (same_unstuck tape first shows n fit h v t).onward
@@ -128,14 +113,14 @@ module _ (tape first : List Fields) (shows : Shows tape first) (n : Net) (fit : 
     searched_on : (w : WithinSets) → Onward (unstuck v).shown (recovers n w v).view.shown
     searched_on w =
         let u = searching (unstuck v) in
-        (same_many (search_length n w u) u (onward_ends v.shown (unstuck v).shown has_end unstuck_on)).onward
+        (same_many Searched (search_length n w u) u (onward_ends v.shown (unstuck v).shown has_end unstuck_on)).onward
 
     call_onward : (c : Call) (w : WithinSets) → Onward v.shown (accepted n w c v).view.shown
     call_onward (State s) w = kept_on v has_end rising
     call_onward (Enter r) w = kept_on v has_end rising
     call_onward Leave w = subst (Onward v.shown) (sym (left_shown v)) (kept_on v has_end rising)
-    call_onward (Match ty) w = of_matches _ (matched_so v has_end own_indexes (matches ty v) n w)
-    call_onward Wildcard w = of_matches _ (matched_so v has_end own_indexes (matches_any v) n w)
+    call_onward (Match ty) w = of_matches (accepted n w (Match ty) v) (matched_so v has_end own_indexes (fits (Match ty) (ahead v 1)) n w)
+    call_onward Wildcard w = of_matches (accepted n w Wildcard v) (matched_so v has_end own_indexes (fits Wildcard (ahead v 1)) n w)
     call_onward Sync w = of_syncs _ (syncs_so n w v has_end rising own_indexes)
     call_onward (Report k) w = subst (Onward v.shown) (sym (of_report k w)) (kept_on v has_end rising)
     call_onward Recover w = onward_more v.shown (unstuck v).shown _ unstuck_on (searched_on w)
@@ -168,15 +153,15 @@ module _ (tape first : List Fields) (shows : Shows tape first) (n : Net) (fit : 
     call_passes (State s) w e said = absurd (both_ways false refl said)
     call_passes (Enter r) w e said = absurd (both_ways false refl said)
     call_passes Leave w e said = absurd (none_passes (is_accepted (left v).answer) _ said)
-    call_passes (Match ty) w e said = matched_past v has_end rising e (matches ty v) n w (only_ends _ _ _ said)
-    call_passes Wildcard w e said = matched_past v has_end rising e (matches_any v) n w (only_ends _ _ _ said)
+    call_passes (Match ty) w e said = matched_past v has_end rising e (fits (Match ty) (ahead v 1)) n w (only_ends _ _ _ said)
+    call_passes Wildcard w e said = matched_past v has_end rising e (fits Wildcard (ahead v 1)) n w (only_ends _ _ _ said)
     call_passes Sync w e said =
         let o = syncs n w v in
         let moved : (place o.view == place v) ≡ false = not-true _ (and_parts (begins_choice n (present n h)) _ (only_ends (is_accepted o.answer) _ _ said)).1 in
         let ne : place o.view ≡ place v → ⊥ = λ d. both_ways _ moved (eq-eqb (place o.view) (place v) d) in
         let le : place v ≤ place o.view = onward_place v.shown _ rising (call_onward Sync w) in
         omega (arith, ne, le)
-    call_passes (Report k) w e said = absurd (both_ways false refl said)
+    call_passes (Report k) w e said = absurd (none_passes (is_accepted (reports n w k v).answer) _ said)
     call_passes Recover w e said = skipped_past w e said
 
     pub step_passes : (c : Call) (w : WithinSets) → is_eof (current v).typ ≡ false → Passes c (step n w c v)

@@ -4,35 +4,29 @@ use Rattle.std.proofs.lemmas.Bool.{cond_both, cond-true, cond-false, and_from, a
 use Rattle.std.proofs.lemmas.List.{reverse-append}
 use Rattle.errors.specs.declared.denial.Denial.TheVariants.{NoRuleOpen, WrongReport}
 use Rattle.atn_graph.specs.Net.{Net}
-use Rattle.records.specs.declared.report.Report.{Report as ReportRecord}
-use Rattle.records.specs.declared.report.ReportKind.TheVariants.{UnwantedToken, MissingToken}
-use Rattle.records.specs.Heard.{hears}
-use Rattle.ll1_analyzer.specs.Sets.{epsilon}
 use Rattle.token.specs.Tokens.{Fields, type_number, own}
 use Rattle.token_stream.specs.Tapes.{token_at, EndsInEof}
 use Rattle.token_stream.specs.Streams.{Shows, passed, shown_at}
 use Rattle.recovery_model.specs.declared.call.Call.{Call}
 use Rattle.recovery_model.specs.declared.call.Call.TheVariants.{State, Enter, Leave, Match, Wildcard, Sync, Report, Recover}
-use Rattle.recovery_model.specs.declared.notes.Mode.{Mode}
-use Rattle.recovery_model.specs.declared.notes.Mode.TheVariants.{Settled, InRepair}
-use Rattle.recovery_model.specs.declared.open_rule.OpenRule.{OpenRule}
-use Rattle.recovery_model.specs.Calls.{Kept, Token, Done}
+use Rattle.recovery_model.specs.Calls.{Token, fits}
 use Rattle.recovery_model.specs.Sets.{WithinSets}
-use Rattle.recovery_model.specs.Views.{View, current, place, here, own_pair, nothing_noted}
-use Rattle.recovery_model.specs.Passing.{before, pass, pass_many, report_of, reported, ended}
-use Rattle.recovery_model.specs.Repairs.{Outcome, does, expects, is_extra, is_missing, made_up, struck, inserted, mismatch_at, mismatches, takes, repairs, matched, matches, matches_any}
-use Rattle.recovery_model.specs.Syncs.{Choice, Begins, GoesBack, Neither, choice_here, in_repair, may_come, may_be_nothing, stops_at, acts, syncs}
-use Rattle.recovery_model.specs.Recovering.{repeats, unstuck, searching, search_length, recovers}
-use Rattle.recovery_model.specs.Denials.{denial, is_report, none_open}
-use Rattle.recovery_model.specs.Steps.{left, reports, expected_at, accepted, step}
+use Rattle.recovery_model.specs.Views.{View, current, place, here, ahead, nothing_noted}
+use Rattle.recovery_model.specs.Passing.{Reason, Searched, before, pass, pass_many, in_repair, begun}
+use Rattle.recovery_model.specs.Outcomes.{Outcome}
+use Rattle.recovery_model.specs.Repairs.{struck, matched}
+use Rattle.recovery_model.specs.Syncs.{choice_here, may_come, may_be_nothing, stops_at, acts, syncs}
+use Rattle.recovery_model.specs.Recovering.{unstuck, searching, search_length, recovers}
+use Rattle.recovery_model.specs.Denials.{denial, may_report, none_open}
+use Rattle.recovery_model.specs.Steps.{left, reports, accepted, step}
 use Rattle.recovery_model.specs.Journals.{Happened, happens, run, journal}
 use Rattle.recovery_model.specs.Histories.{is_accepted, is_of_the_tape, is_made_up, begins_choice, goes_back, is_unfit, ends_repair, begins_repair, repairing}
 use Rattle.recovery_model.specs.Notes.{Tells}
 use Rattle.recovery_model.proofs.Fitting.{Fit}
 use Rattle.recovery_model.proofs.Shown.{Rises, Numbered, Onward, onward_rises, onward_numbered, passed_onward}
-use Rattle.recovery_model.proofs.Moves.{reported_shown}
 use Rattle.recovery_model.proofs.Doing.{not_eof, struck_moves}
-use Rattle.recovery_model.proofs.Telling.{told, by_step, no_first, left_none, left_one, of_kind, reports_none, reports_kept, onward, ends, tells_step}
+use Rattle.recovery_model.proofs.Telling.{told, onward, ends, tells_step}
+use Rattle.recovery_model.proofs.Cases.{no_first, by_step, by_left, by_report, by_match, by_acts, by_sync, by_guard}
 
 -- whether repair goes on after an event that ends it or begins it or neither
 abbrev turned : Bool → Bool → Bool → Bool
@@ -50,29 +44,13 @@ stays_so e b was p q = sym (cond-false e false _ p ∙ cond-false b true was q)
 goes_on : (e b was : Bool) → e ≡ false → was ≡ true → was ≡ turned e b was
 goes_on e b was p q = sym (cond-false e false _ p ∙ cond_both b true was (λ x. x ≡ was) (λ f. sym q) (λ f. refl))
 
--- a report begins repair, and passing leaves the mode
-begun : (v : View) → v.noted.mode ≡ InRepair → in_repair v ≡ true
-begun v e = rw e refl
-
-reported_settled : (r : ReportRecord) (v : View) → v.noted.mode ≡ Settled → reported r v ≡ record v { heard = hears r v.heard; noted = record v.noted { mode = InRepair } }
-reported_settled r v e = rw (reported, e) refl
-
-reported_again : (r : ReportRecord) (v : View) → v.noted.mode ≡ InRepair → reported r v ≡ v
-reported_again r v e = rw (reported, e) refl
-
-reported_repairs : (r : ReportRecord) (v : View) → in_repair (reported r v) ≡ true
-reported_repairs r v = at v.noted.mode refl
-  where
-    at : (m : Mode) → v.noted.mode ≡ m → in_repair (reported r v) ≡ true
-    at Settled e = ap in_repair (reported_settled r v e)
-    at InRepair e = ap in_repair (reported_again r v e) ∙ begun v e
-
-mode_many : (k : ℕ) (v : View) → in_repair (pass_many k v) ≡ in_repair v
-mode_many zero v = refl
-mode_many (suc k) v = mode_many k (pass v)
+-- passing leaves the mode
+mode_many : (why : Reason) (k : ℕ) (v : View) → in_repair (pass_many why k v) ≡ in_repair v
+mode_many why zero v = refl
+mode_many why (suc k) v = mode_many why k (pass why v)
 
 mode_unstuck : (v : View) → in_repair (unstuck v) ≡ in_repair v
-mode_unstuck v = cond_both (repeats v) (pass v) v (λ u. in_repair u ≡ in_repair v) (λ e. refl) (λ e. refl)
+mode_unstuck v = by_guard (λ u. in_repair u ≡ in_repair v) v (λ _. refl) (λ _. refl)
 
 of_the_tape : (t : Fields) → t.index ≡ Some (own t) → is_of_the_tape (Token t) ≡ true
 of_the_tape t e = rw e refl
@@ -86,23 +64,18 @@ abbrev Answers : View → Outcome → Type 0
 Answers v o = in_repair o.view ≡ turned (is_accepted o.answer && is_of_the_tape o.answer) (is_accepted o.answer && is_made_up o.answer) (in_repair v)
 
 module _ (v : View) (ends_in : EndsInEof v.shown) (numbered : Numbered v.shown) (n : Net) (w : WithinSets) where
-  abbrev unwanted : ReportRecord
-  unwanted = report_of UnwantedToken (current v) (expects n w v)
-
-  struck_named : (current (struck n w v)).index ≡ Some (own (current (struck n w v)))
+  struck_named : (current (struck v)).index ≡ Some (own (current (struck v)))
   struck_named =
       let one : Onward v.shown (passed v.shown) = passed_onward v.shown ends_in in
-      subst (λ ts. (token_at (passed ts) 0).index ≡ Some (own (token_at (passed ts) 0))) (sym (reported_shown unwanted v)) (onward_numbered v.shown (passed v.shown) numbered one 0 one.some)
+      onward_numbered v.shown (passed v.shown) numbered one 0 one.some
 
-  answers_so : (fits : Bool) → Answers v (matched fits n w v)
-  answers_so fits =
-      cond_both fits (takes (ended v)) (repairs n w v) (Answers v)
-      (λ e. ended_so _ (is_made_up (Token (current v))) (in_repair v) (of_the_tape (current v) (numbered 0 ends_in.some)))
-      (λ e. cond_both (is_extra n w v) (takes (struck n w v)) _ (Answers v)
-      (λ e. ended_so _ (is_made_up (Token (current (struck n w v)))) (in_repair v) (of_the_tape (current (struck n w v)) struck_named))
-      (λ e. cond_both (is_missing n w v) (does (inserted n w v) (Token (made_up n w v))) (mismatches _ v) (Answers v)
-      (λ e. reported_repairs (report_of MissingToken (current v) (expects n w v)) v)
-      (λ e. refl)))
+  answers_so : (fit : Bool) → Answers v (matched fit n w v)
+  answers_so fit =
+      by_match (Answers v) fit n w v
+      (λ _. ended_so _ (is_made_up (Token (current v))) (in_repair v) (of_the_tape (current v) (numbered 0 ends_in.some)))
+      (λ _. ended_so _ (is_made_up (Token (current (struck v)))) (in_repair v) (of_the_tape (current (struck v)) struck_named))
+      (λ _. refl)
+      refl
 
   -- a sync, by where the parser stands
   abbrev Turned : Outcome → Type 0
@@ -114,45 +87,29 @@ module _ (v : View) (ends_in : EndsInEof v.shown) (numbered : Numbered v.shown) 
   fit_so : (not (may_come w v) && not (may_be_nothing w v)) ≡ false → (goes_back n (here v) && (not (may_come w v) && not (may_be_nothing w v))) ≡ false
   fit_so e = and_right (goes_back n (here v)) _ e
 
-  acted : Rises v.shown → (c : Choice) → choice_here n v ≡ c → may_come w v ≡ false → may_be_nothing w v ≡ false → Turned (acts c n w v)
-  acted rises Begins is come nothing =
-      let begins : begins_choice n (here v) ≡ true = rw is refl in
-      let not_back : goes_back n (here v) ≡ false = rw is refl in
-      cond_both (is_extra n w v) (does (struck n w v) Done) (mismatches (mismatch_at (own_pair v) v) v) Turned
-      (λ e. ended_so _ (goes_back n (here v) && (not (may_come w v) && not (may_be_nothing w v))) (in_repair v) (and_from _ _ begins (ap not (ne_eqb _ _ (struck_moves n w v ends_in rises numbered (not_eof n w v ends_in rises numbered come nothing e))))))
-      (λ e. stays_so _ _ _ still (and_left _ _ not_back))
-  acted rises GoesBack is come nothing =
-      let begins : begins_choice n (here v) ≡ false = rw is refl in
+  acted : Rises v.shown → may_come w v ≡ false → may_be_nothing w v ≡ false → Turned (acts (choice_here n v) n w v)
+  acted rises come nothing =
+      by_acts Turned (choice_here n v) n w v
+      (λ is e. let begins : begins_choice n (here v) ≡ true = rw is refl in
+      ended_so _ (goes_back n (here v) && (not (may_come w v) && not (may_be_nothing w v))) (in_repair v) (and_from _ _ begins (ap not (ne_eqb _ _ (struck_moves n w v ends_in rises numbered (not_eof n w v ends_in rises numbered come nothing e))))))
+      (λ is. let not_back : goes_back n (here v) ≡ false = rw is refl in stays_so _ _ _ still (and_left _ _ not_back))
+      (λ is. let begins : begins_choice n (here v) ≡ false = rw is refl in
       let back : goes_back n (here v) ≡ true = rw is refl in
-      mode_many (before (stops_at n w v) v.shown) (reported unwanted v)
-      ∙ reported_repairs unwanted v
-      ∙ begun_so _ _ _ (and_left _ _ begins) (and_from _ _ back (and_from _ _ (ap not come) (ap not nothing)))
-  acted rises Neither is come nothing =
-      let not_back : goes_back n (here v) ≡ false = rw is refl in
-      stays_so _ _ _ still (and_left _ _ not_back)
+      mode_many Searched (before (stops_at n w v) v.shown) (begun v)
+      ∙ begun_so _ _ _ (and_left _ _ begins) (and_from _ _ back (and_from _ _ (ap not come) (ap not nothing))))
+      (λ is. let not_back : goes_back n (here v) ≡ false = rw is refl in stays_so _ _ _ still (and_left _ _ not_back))
 
   turned_so : Rises v.shown → Turned (syncs n w v)
   turned_so rises =
-      cond_both (in_repair v) (does v Done) _ Turned
+      by_sync Turned n w v
       (λ e. goes_on _ _ _ still e)
-      (λ e. cond_both (may_come w v) (does _ Done) _ Turned
       (λ e. stays_so _ _ _ still (fit_so (and_left _ _ (ap not e))))
-      (λ come. cond_both (may_be_nothing w v) (does _ Done) (acts (choice_here n v) n w v) Turned
       (λ e. stays_so _ _ _ still (fit_so (and_right (not (may_come w v)) _ (ap not e))))
-      (λ nothing. acted rises (choice_here n v) refl come nothing)))
+      (acted rises)
 
 -- A report that is accepted begins repair: a mismatch is reported only if one is kept.
-no_report : (k : ℕ) (v : View) → v.kept ≡ None → (k == 2) ≡ true → is_report k v ≡ false
+no_report : (k : ℕ) (v : View) → v.kept ≡ None → (k == 2) ≡ true → may_report k v ≡ false
 no_report k v e two = rw (eqb-true k 2 two, e) refl
-
-reports_so : (n : Net) (w : WithinSets) (k : ℕ) (v : View) → is_report k v ≡ true → in_repair (reports n w k v) ≡ true
-reports_so n w k v may = at v.kept refl
-  where
-    at : (m : Option Kept) → v.kept ≡ m → in_repair (reports n w k v) ≡ true
-    at None e = ap in_repair (reports_none n w k v e) ∙ cond_both (k == 2) v _ (λ u. in_repair u ≡ true) (λ two. absurd (both_ways _ (no_report k v e two) may)) (λ f. reported_repairs (of_kind k v) v)
-    at (Some m) e =
-        ap in_repair (reports_kept n w k v m e)
-        ∙ cond_both (k == 2) (reported (expected_at n w m) v) _ (λ u. in_repair u ≡ true) (λ f. reported_repairs (expected_at n w m) v) (λ f. reported_repairs (of_kind k v) v)
 
 module _ (tape first : List Fields) (shows : Shows tape first) (n : Net) (fit : Fit n) (w : WithinSets) where
   module _ (h : List Happened) (v : View) (t : Tells n first h v) where
@@ -169,14 +126,10 @@ module _ (tape first : List Fields) (shows : Shows tape first) (n : Net) (fit : 
     Turns c o = in_repair o.view ≡ turned (ends_repair n h (told c v o)) (begins_repair n w first h (told c v o)) (in_repair v)
 
     turns_leave : Turns Leave (left v)
-    turns_leave = at v.open_rules refl
-      where
-        at : (os : List OpenRule) → v.open_rules ≡ os → Turns Leave (left v)
-        at [] e = subst (Turns Leave) (sym (left_none v e)) refl
-        at (o ∷ os) e = subst (Turns Leave) (sym (left_one v o os e)) refl
+    turns_leave = by_left (Turns Leave) v (λ _. refl) (λ o os _. refl)
 
     unfit_so : (not (may_come w v) && not (may_be_nothing w v)) ≡ is_unfit w first (here v) (place v)
-    unfit_so = ap (λ tok. not (w (here v) (type_number tok.typ)) && not (w (here v) epsilon)) (first_ahead v.shown ∙ ap (λ ts. token_at ts 0) t.shown)
+    unfit_so = ap (λ tok. not (w.types (here v) (type_number tok.typ)) && not (w.end (here v))) (first_ahead v.shown ∙ ap (λ ts. token_at ts 0) t.shown)
 
     turns_sync : Turns Sync (syncs n w v)
     turns_sync =
@@ -185,20 +138,20 @@ module _ (tape first : List Fields) (shows : Shows tape first) (n : Net) (fit : 
         (subst (λ b. in_repair o.view ≡ turned (is_accepted o.answer && (begins_choice n (here v) && not (place o.view == place v))) (is_accepted o.answer && (goes_back n (here v) && b)) (in_repair v)) unfit_so
         (turned_so v has_end own_indexes n w rising))
 
-    turns_report : (k : ℕ) → denial n w (Report k) v ≡ None → Turns (Report k) (does (reports n w k v) Done)
+    turns_report : (k : ℕ) → denial n w (Report k) v ≡ None → Turns (Report k) (reports n w k v)
     turns_report k none =
-        let f = no_first (WrongReport, not (is_report k v)) [] (no_first (NoRuleOpen, none_open v) ((WrongReport, not (is_report k v)) ∷ []) none).1 in
-        reports_so n w k v (not-false (is_report k v) f.0)
+        let f = no_first (WrongReport, not (may_report k v)) [] (no_first (NoRuleOpen, none_open v) ((WrongReport, not (may_report k v)) ∷ []) none).1 in
+        by_report (Turns (Report k)) n w k v (λ e two. absurd (both_ways _ (no_report k v e two) (not-false (may_report k v) f.0))) (λ t. refl)
 
     turns_recover : Turns Recover (recovers n w v)
-    turns_recover = let u = searching (unstuck v) in mode_many (search_length n w u) u ∙ mode_unstuck v
+    turns_recover = let u = searching (unstuck v) in mode_many Searched (search_length n w u) u ∙ mode_unstuck v
 
     turns : (c : Call) → denial n w c v ≡ None → Turns c (accepted n w c v)
     turns (State s) none = refl
     turns (Enter r) none = refl
     turns Leave none = turns_leave
-    turns (Match ty) none = answers_so v has_end own_indexes n w (matches ty v)
-    turns Wildcard none = answers_so v has_end own_indexes n w (matches_any v)
+    turns (Match ty) none = answers_so v has_end own_indexes n w (fits (Match ty) (ahead v 1))
+    turns Wildcard none = answers_so v has_end own_indexes n w (fits Wildcard (ahead v 1))
     turns Sync none = turns_sync
     turns (Report k) none = turns_report k none
     turns Recover none = turns_recover

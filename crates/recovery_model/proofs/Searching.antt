@@ -6,14 +6,14 @@ use Rattle.std.proofs.lemmas.Bool.{cond_both, cond-false, or_parts, and_parts, a
 use Rattle.std.proofs.lemmas.Bool.Decides.{Decides-int_eq}
 use Rattle.std.proofs.lemmas.List.Folds.{Any-from_list_any, list_any-from_Any}
 use Rattle.atn_graph.specs.Net.{Net}
-use Rattle.ll1_analyzer.specs.Sets.{epsilon, Recovery}
+use Rattle.ll1_analyzer.specs.Sets.{Recovery}
 use Rattle.token.specs.Tokens.{Fields, type_number, is_eof}
 use Rattle.token_stream.specs.Tapes.{token_at, EndsInEof}
 use Rattle.token_stream.specs.Streams.{passed}
 use Rattle.recovery_model.specs.declared.open_rule.OpenRule.{OpenRule}
 use Rattle.recovery_model.specs.Sets.{WithinSets, Agree, recovery}
 use Rattle.recovery_model.specs.Views.{View}
-use Rattle.recovery_model.specs.Passing.{before, pass, pass_many}
+use Rattle.recovery_model.specs.Passing.{Reason, before, pass, pass_many}
 use Rattle.recovery_model.proofs.Shown.{onward_ends, passed_onward}
 
 -- EOF, or a token of such a type
@@ -33,9 +33,9 @@ abbrev pub passed_many : ℕ → List Fields → List Fields
 passed_many zero ts = ts
 passed_many (suc k) ts = passed_many k (passed ts)
 
-pub many_shown : (k : ℕ) (v : View) → (pass_many k v).shown ≡ passed_many k v.shown
-many_shown zero v = refl
-many_shown (suc k) v = many_shown k (pass v)
+pub many_shown : (why : Reason) (k : ℕ) (v : View) → (pass_many why k v).shown ≡ passed_many k v.shown
+many_shown why zero v = refl
+many_shown why (suc k) v = many_shown why k (pass why v)
 
 longer : (types : ℤ → Bool) (t : Fields) (us rest : List Fields) → fits types t ≡ false → Stops types us rest → Stops types (t ∷ us) rest
 longer types t us rest e s = record { passed = t ∷ s.passed; parts = ap (λ xs. t ∷ xs) s.parts; some = s.some; stops = s.stops; passes = passes }
@@ -59,14 +59,11 @@ decides_recovery n w agree fs x = (to, from)
   where
     to : recovery w fs x ≡ true → Recovery n fs x
     to e =
-        let p = and_parts (not (int_eq x epsilon)) (list_any (λ f. w f x) fs) e in
-        let a = Any-from_list_any (λ f. w f x) fs p.1 in
-        record { state = a.1; listed = (a.0, a.2, a.3); within = (agree a.1 x).0 a.4; some = λ s. both_ways _ (not-true (int_eq x epsilon) p.0) ((Decides-int_eq x epsilon).1 s) }
+        let a = Any-from_list_any (λ f. w.types f x) fs e in
+        record { state = a.1; listed = (a.0, a.2, a.3); types = (agree.types a.1 x).0 a.4 }
 
     from : Recovery n fs x → recovery w fs x ≡ true
-    from r =
-        and_from _ _ (not_from_false (int_eq x epsilon) (false_from_ne_true _ (λ e. r.some ((Decides-int_eq x epsilon).0 e))))
-        (list_any-from_Any (λ f. w f x) fs (r.listed.0, r.state, r.listed.1, r.listed.2, (agree r.state x).1 r.within))
+    from r = list_any-from_Any (λ f. w.types f x) fs (r.listed.0, r.state, r.listed.1, r.listed.2, (agree.types r.state x).1 r.types)
 
 -- the open rules' invoking states, by the rules or by where the parser stands
 pub same_chain : (os : List OpenRule) → flat_map (λ o. option_to_list o.invoking) os ≡ flat_map option_to_list (map (λ o. o.invoking) os)

@@ -2,69 +2,34 @@
 use Rattle.std.proofs.Common.{◌≡◌, ℕ, zero, suc, ◌<◌, Bool, true, false, not, ◌&&◌, ◌==◌, nat_lt, ◌⊎◌, List, [], ◌∷◌, ◌++◌, length, map, reverse, ℤ, Option, Some, None, sym, refl, ap, ◌∙◌, append_assoc, subst, ap₂, inl, inr, arith, if◌then◌else◌, unwrap_or, All, slice_index_or, slice_set}
 use Rattle.std.proofs.lemmas.Bool.{cond_both, cond-true, cond-false, or_parts, and_from, and_right, not-false, eq-eqb, ne_eqb, cases_eq, ltb-true}
 use Rattle.std.proofs.lemmas.List.{get_or-replicate, length-replicate, get_or-set_same, get_or-set_other, length-set, reverse-append}
-use Rattle.std.proofs.lemmas.Option.{none-some}
-use Rattle.errors.specs.declared.denial.Denial.{Denial}
 use Rattle.errors.specs.declared.denial.Denial.TheVariants.{OutsideLimits, StateOutside, NoRuleOpen, WrongRule, TooManyRules}
 use Rattle.atn_graph.specs.Net.{Net, size}
 use Rattle.token.specs.Tokens.{Fields}
 use Rattle.token_stream.specs.Tapes.{EndsInEof}
 use Rattle.token_stream.specs.Streams.{Shows}
-use Rattle.records.specs.declared.report.Report.{Report as ReportRecord}
-use Rattle.records.specs.declared.report.ReportKind.TheVariants.{NoViableAlternative, FailedPredicate}
 use Rattle.recovery_model.specs.declared.call.Call.{Call}
 use Rattle.recovery_model.specs.declared.call.Call.TheVariants.{State, Enter, Leave, Match, Wildcard, Sync, Report, Recover}
 use Rattle.recovery_model.specs.declared.open_rule.OpenRule.{OpenRule}
-use Rattle.recovery_model.specs.Calls.{Said, Kept, Denied, Done, Left as LeftAnswer, Token, Mismatch}
-use Rattle.recovery_model.specs.Sets.{WithinSets, no_types}
-use Rattle.recovery_model.specs.Views.{View, current, place, here, nothing_noted}
-use Rattle.recovery_model.specs.Passing.{pass, reported, report_of, pass_many}
-use Rattle.recovery_model.specs.Repairs.{Outcome, does, matches, matches_any}
+use Rattle.recovery_model.specs.Calls.{Said, Denied, Done, Left as LeftAnswer, Token, Mismatch, fits}
+use Rattle.recovery_model.specs.Sets.{WithinSets}
+use Rattle.recovery_model.specs.Views.{View, place, here, ahead, nothing_noted}
+use Rattle.recovery_model.specs.Passing.{Searched, pass, begun, pass_many}
+use Rattle.recovery_model.specs.Outcomes.{Outcome, does}
 use Rattle.recovery_model.specs.Recovering.{repeats, unstuck, searching, search_length, recovers}
-use Rattle.recovery_model.specs.Denials.{denial, first_fault, is_elsewhere, none_open, is_called}
-use Rattle.recovery_model.specs.Steps.{left, reports, expected_at, accepted, step}
+use Rattle.recovery_model.specs.Denials.{denial, is_elsewhere, none_open, is_called}
+use Rattle.recovery_model.specs.Steps.{left, reports, accepted, step}
 use Rattle.recovery_model.specs.Journals.{Happened, happens, run, journal}
 use Rattle.recovery_model.specs.Histories.{is_accepted, is_of_the_tape, begins_choice, moved, standing, present, shown_from, next_place, ends_repair, is_recover, recovered_in, latest_search, skips, searched_from}
 use Rattle.recovery_model.specs.Notes.{stands, Inside, Tells}
 use Rattle.recovery_model.proofs.Fitting.{Fit}
+use Rattle.recovery_model.proofs.Cases.{no_first, by_step, by_left, by_report, by_guard}
 use Rattle.recovery_model.proofs.Shown.{Rises, Numbered, Onward, onward_by, onward_ends, onward_rises, onward_numbered, onward_more, onward_from, onward_next}
-use Rattle.recovery_model.proofs.Moves.{Same, Cleared, same_self, same_pass, same_many, same_reported}
+use Rattle.recovery_model.proofs.Moves.{Same, Cleared, same_self, same_pass, same_many, same_begun}
 use Rattle.recovery_model.proofs.Doing.{Matches, matched_so, Syncs, syncs_so}
 
 -- the event of a call and what it did
 abbrev pub told : Call → View → Outcome → Happened
 told c v o = record { call = c; answer = o.answer; before = place v; after = place o.view }
-
--- either the call is denied, or it is accepted and does its work
-pub by_step : (P : Outcome → Type 0) (n : Net) (w : WithinSets) (c : Call) (v : View) → ((d : Denial) → P (does v (Denied d))) → (denial n w c v ≡ None → P (accepted n w c v)) → P (step n w c v)
-by_step P n w c v denied does_it = at (denial n w c v) refl
-  where
-    at : (o : Option Denial) → denial n w c v ≡ o → P (step n w c v)
-    at None e = rw e (does_it e)
-    at (Some d) e = rw e (denied d)
-
--- no fault fits
-pub no_first : (f : Denial × Bool) (fs : List (Denial × Bool)) → first_fault (f ∷ fs) ≡ None → (f.1 ≡ false) × (first_fault fs ≡ None)
-no_first f fs = at (f.1) refl
-  where
-    at : (b : Bool) → f.1 ≡ b → first_fault (f ∷ fs) ≡ None → (f.1 ≡ false) × (first_fault fs ≡ None)
-    at true e none = absurd (none-some f.0 (sym none ∙ cond-true f.1 (Some f.0) (first_fault fs) e))
-    at false e none = (e, sym (cond-false f.1 (Some f.0) (first_fault fs) e) ∙ none)
-
--- what a call does, by what the view holds
-pub left_none : (v : View) → v.open_rules ≡ [] → left v ≡ does v Done
-left_none v e = rw e refl
-
-pub left_one : (v : View) (o : OpenRule) (os : List OpenRule) → v.open_rules ≡ o ∷ os → left v ≡ does (record v { state = o.invoking; open_rules = os }) (LeftAnswer o.leaves)
-left_one v o os e = rw e refl
-
-abbrev pub of_kind : ℕ → View → ReportRecord
-of_kind k v = report_of (if k == 1 then NoViableAlternative else FailedPredicate) (current v) no_types
-
-pub reports_none : (n : Net) (w : WithinSets) (k : ℕ) (v : View) → v.kept ≡ None → reports n w k v ≡ (if k == 2 then v else reported (of_kind k v) v)
-reports_none n w k v e = rw e refl
-
-pub reports_kept : (n : Net) (w : WithinSets) (k : ℕ) (v : View) (m : Kept) → v.kept ≡ Some m → reports n w k v ≡ (if k == 2 then reported (expected_at n w m) v else reported (of_kind k v) v)
-reports_kept n w k v m e = rw e refl
 
 never : (v : View) → v.noted.last ≡ None → repeats v ≡ false
 never v e = rw e refl
@@ -167,20 +132,19 @@ module _ (tape first : List Fields) (shows : Shows tape first) (n : Net) (fit : 
         more (suc k) d l = t.inside.invoking k d (omega arith)
 
     at_leave : Told Leave (left v)
-    at_leave = at v.open_rules refl
+    at_leave = by_left (Told Leave) v none some
       where
-        P : Option ℕ → Type 0
-        P i = unwrap_or i 0 < size n
-
-        at : (os : List OpenRule) → v.open_rules ≡ os → Told Leave (left v)
-        at [] e =
+        none : v.open_rules ≡ [] → Told Leave (does v Done)
+        none e =
             let none : moved n Leave (stands v) ≡ stands v = rw e refl in
-            subst (Told Leave) (sym (left_none v e)) (tells_same _ v (same_self v ends) refl refl (ap (moved n Leave) (sym t.standing) ∙ none ∙ t.standing))
-        at (o ∷ os) e =
+            tells_same _ v (same_self v ends) refl refl (ap (moved n Leave) (sym t.standing) ∙ none ∙ t.standing)
+
+        some : (o : OpenRule) (os : List OpenRule) → v.open_rules ≡ o ∷ os → Told Leave (does (record v { state = o.invoking; open_rules = os }) (LeftAnswer o.leaves))
+        some o os e =
             let u = record v { state = o.invoking; open_rules = os } in
             let back : stands u ≡ moved n Leave (stands v) = rw e refl in
             let all : All (λ i. unwrap_or i 0 < size n) (map (λ o. o.invoking) (o ∷ os)) = subst (λ rs. All (λ i. unwrap_or i 0 < size n) (map (λ o. o.invoking) rs)) e t.inside.invoking in
-            subst (Told Leave) (sym (left_one v o os e)) (tells_moved _ u (back ∙ ap (moved n Leave) t.standing) (record { state = all 0 None (omega arith); invoking = λ k d l. all (suc k) d (omega arith) }) refl refl refl refl)
+            tells_moved _ u (back ∙ ap (moved n Leave) t.standing) (record { state = all 0 None (omega arith); invoking = λ k d l. all (suc k) d (omega arith) }) refl refl refl refl
 
     -- a call that moves nothing
     unmoved : (a : Said) → (if is_accepted a then standing n h else standing n h) ≡ standing n h
@@ -215,18 +179,14 @@ module _ (tape first : List Fields) (shows : Shows tape first) (n : Net) (fit : 
         let none : (begins_choice n (present n h) && not (place o.view == place v)) ≡ false = subst (λ p. (begins_choice n p && not (place o.view == place v)) ≡ false) is_present s.ends_nothing in
         tells_same _ o.view s.same (and_right _ _ none) (no_recover o.answer) (unmoved o.answer)
 
-    at_report : (k : ℕ) (w : WithinSets) → Told (Report k) (does (reports n w k v) Done)
-    at_report k w = tells_same _ _ (at v.kept refl) refl refl refl
-      where
-        at : (m : Option Kept) → v.kept ≡ m → Same v (reports n w k v)
-        at None e = subst (Same v) (sym (reports_none n w k v e)) (cond_both (k == 2) v _ (Same v) (λ f. same_self v ends) (λ f. same_reported (of_kind k v) v ends))
-        at (Some m) e = subst (Same v) (sym (reports_kept n w k v m e)) (cond_both (k == 2) (reported (expected_at n w m) v) _ (Same v) (λ f. same_reported (expected_at n w m) v ends) (λ f. same_reported (of_kind k v) v ends))
+    at_report : (k : ℕ) (w : WithinSets) → Told (Report k) (reports n w k v)
+    at_report k w = by_report (Told (Report k)) n w k v (λ _ _. tells_same _ _ (same_self v ends) refl refl refl) (λ r. tells_same _ _ (same_begun v ends) refl refl refl)
 
     pub same_unstuck : Same v (unstuck v)
-    same_unstuck = cond_both (repeats v) (pass v) v (Same v) (λ e. same_pass v ends) (λ e. same_self v ends)
+    same_unstuck = by_guard (Same v) v (λ _. same_pass Searched v ends) (λ _. same_self v ends)
 
     -- from where it searches
-    place_if : (b : Bool) → place (if b then pass v else v) ≡ (if b then next_place first (place v) else place v)
+    place_if : (b : Bool) → place (if b then pass Searched v else v) ≡ (if b then next_place first (place v) else place v)
     place_if true = sym (onward_next first v.shown shows.rises (onward h v t))
     place_if false = refl
 
@@ -260,7 +220,7 @@ module _ (tape first : List Fields) (shows : Shows tape first) (n : Net) (fit : 
         at (Some p) e = again p e ∙ sym (rw e refl)
 
     pub searches_from : (o : Outcome) → place (unstuck v) ≡ searched_from n first h (told Recover v o)
-    searches_from o = ap (λ b. place (if b then pass v else v)) (skipped o) ∙ place_if (skips n first h (told Recover v o))
+    searches_from o = ap (λ b. place (if b then pass Searched v else v)) (skipped o) ∙ place_if (skips n first h (told Recover v o))
 
     at_recover : (w : WithinSets) → Told Recover (recovers n w v)
     at_recover w = record {
@@ -281,8 +241,8 @@ module _ (tape first : List Fields) (shows : Shows tape first) (n : Net) (fit : 
         e : Happened
         e = told Recover v (recovers n w v)
 
-        after : Same u (pass_many (search_length n w u) u)
-        after = same_many (search_length n w u) u (onward_ends v.shown (unstuck v).shown ends same_unstuck.onward)
+        after : Same u (pass_many Searched (search_length n w u) u)
+        after = same_many Searched (search_length n w u) u (onward_ends v.shown (unstuck v).shown ends same_unstuck.onward)
 
         now : Left (recovers n w v).view
         now = left_by (recovers n w v).view (onward_more first v.shown _ (onward h v t) (onward_more v.shown u.shown _ same_unstuck.onward after.onward))
@@ -295,8 +255,8 @@ module _ (tape first : List Fields) (shows : Shows tape first) (n : Net) (fit : 
     at_call (State s) w none = at_state s w none
     at_call (Enter r) w none = at_enter r w none
     at_call Leave w none = at_leave
-    at_call (Match ty) w none = at_match ty _ (matched_so v ends own_indexes (matches ty v) n w)
-    at_call Wildcard w none = at_wildcard _ (matched_so v ends own_indexes (matches_any v) n w)
+    at_call (Match ty) w none = at_match ty (accepted n w (Match ty) v) (matched_so v ends own_indexes (fits (Match ty) (ahead v 1)) n w)
+    at_call Wildcard w none = at_wildcard (accepted n w Wildcard v) (matched_so v ends own_indexes (fits Wildcard (ahead v 1)) n w)
     at_call Sync w none = at_sync _ (syncs_so n w v ends rises own_indexes)
     at_call (Report k) w none = at_report k w
     at_call Recover w none = at_recover w

@@ -1,5 +1,6 @@
 -- The calls and what they answer, by their numbers.
-use Rattle.std.specs.Prelude.{ℕ, List, [], ◌∷◌, ◌++◌, map, ℤ, pos}
+use Rattle.std.specs.Prelude.{ℕ, Bool, true, false, ◌==◌, List, [], ◌∷◌, ◌++◌, map, ℤ, pos, int_lt}
+use Rattle.std.specs.Ordering.{int_eq}
 use Rattle.errors.specs.declared.denial.Denial.{Denial}
 use Rattle.errors.specs.Denials.{denial_number}
 use Rattle.fixed_vec.specs.Items.{items}
@@ -19,6 +20,37 @@ call_number Wildcard = 5
 call_number Sync = 6
 call_number (Report k) = 7
 call_number Recover = 8
+
+-- Match and wildcard take a token.
+abbrev pub takes_token : Call → Bool
+takes_token (State s) = false
+takes_token (Enter r) = false
+takes_token Leave = false
+takes_token (Match t) = true
+takes_token Wildcard = true
+takes_token Sync = false
+takes_token (Report k) = false
+takes_token Recover = false
+
+-- whether a token of the type is what the call asks for: match asks for one type, wildcard for any above 0
+abbrev pub fits : Call → ℤ → Bool
+fits (State s) x = false
+fits (Enter r) x = false
+fits Leave x = false
+fits (Match t) x = int_eq x t
+fits Wildcard x = int_lt (pos 0) x
+fits Sync x = false
+fits (Report k) x = false
+fits Recover x = false
+
+abbrev pub is_sync : Call → Bool
+is_sync c = call_number c == 6
+
+abbrev pub is_report : Call → Bool
+is_report c = call_number c == 7
+
+abbrev pub is_recover_call : Call → Bool
+is_recover_call c = call_number c == 8
 
 -- a token that did not match, and where the parser stood: its state, and the invoking states of its open rules
 pub record Kept : Type 0 where

@@ -4,12 +4,11 @@ use Rattle.std.specs.Prelude.{ℕ, Bool, true, false, not, ◌&&◌, ◌==◌, L
 use Rattle.std.specs.List.{flat_map}
 use Rattle.atn_graph.specs.Net.{Net, rule_at, state_at}
 use Rattle.ll1_analyzer.specs.Chains.{follow_states}
-use Rattle.ll1_analyzer.specs.Sets.{epsilon}
 use Rattle.token.specs.Tokens.{Fields, type_number, own, is_eof}
 use Rattle.token_stream.specs.Tapes.{token_at}
 use Rattle.recovery_model.specs.declared.call.Call.{Call}
-use Rattle.recovery_model.specs.declared.call.Call.TheVariants.{State, Enter, Leave, Match, Wildcard, Sync, Report, Recover}
-use Rattle.recovery_model.specs.Calls.{Said, Token, Denied}
+use Rattle.recovery_model.specs.declared.call.Call.TheVariants.{State, Enter, Leave}
+use Rattle.recovery_model.specs.Calls.{Said, Token, Denied, takes_token, is_sync, is_report, is_recover_call}
 use Rattle.recovery_model.specs.Journals.{Happened}
 use Rattle.recovery_model.specs.Sets.{WithinSets}
 use Rattle.recovery_model.specs.Syncs.{Choice, Begins, GoesBack, choice}
@@ -73,16 +72,12 @@ begins_choice n s = at (choice (state_at n s).kind)
     at Begins = true
     at c = false
 
--- Repair is ended by a match or a wildcard that answers a token of the tape, and by a sync where a choice begins that passes
--- a token.
+-- Repair is ended by a call that takes a token and answers one of the tape, and by a sync where a choice begins that passes a
+-- token.
 abbrev pub ends_repair : Net → List Happened → Happened → Bool
-ends_repair n h e = is_accepted e.answer && at e.call
-  where
-    at : Call → Bool
-    at (Match t) = is_of_the_tape e.answer
-    at Wildcard = is_of_the_tape e.answer
-    at Sync = begins_choice n (present n h) && not (e.after == e.before)
-    at c = false
+ends_repair n h e =
+    is_accepted e.answer
+    && (if takes_token e.call then is_of_the_tape e.answer else is_sync e.call && (begins_choice n (present n h) && not (e.after == e.before)))
 
 -- a made-up token is answered
 abbrev pub is_made_up : Said → Bool
@@ -99,19 +94,16 @@ goes_back n s = at (choice (state_at n s).kind)
 
 -- the token first shown at the place may not come in the state, and what comes there may not be nothing
 abbrev pub is_unfit : WithinSets → List Fields → ℕ → ℕ → Bool
-is_unfit w ts s p = not (w s (type_number (token_at (shown_from p ts) 0).typ)) && not (w s epsilon)
+is_unfit w ts s p = not (w.types s (type_number (token_at (shown_from p ts) 0).typ)) && not (w.end s)
 
--- A fault is reported, unless repair goes on already: by a report, by a match or a wildcard that answers a made-up token, and
--- by a sync on the way back of a loop where the token first shown does not fit.
+-- A fault is reported, unless repair goes on already: by a call that takes a token and answers a made-up one, by a sync on the
+-- way back of a loop where the token first shown does not fit, and by a report.
 abbrev pub begins_repair : Net → WithinSets → List Fields → List Happened → Happened → Bool
-begins_repair n w ts h e = is_accepted e.answer && at e.call
-  where
-    at : Call → Bool
-    at (Match t) = is_made_up e.answer
-    at Wildcard = is_made_up e.answer
-    at Sync = goes_back n (present n h) && is_unfit w ts (present n h) e.before
-    at (Report k) = true
-    at c = false
+begins_repair n w ts h e =
+    is_accepted e.answer
+    && (if takes_token e.call then is_made_up e.answer
+    else if is_sync e.call then goes_back n (present n h) && is_unfit w ts (present n h) e.before
+    else is_report e.call)
 
 -- a fault was reported since repair was last ended
 abbrev pub repairing : Net → WithinSets → List Fields → List Happened → Bool
@@ -119,11 +111,7 @@ repairing n w ts [] = false
 repairing n w ts (e ∷ h) = if ends_repair n h e then false else if begins_repair n w ts h e then true else repairing n w ts h
 
 abbrev pub is_recover : Happened → Bool
-is_recover e = is_accepted e.answer && at e.call
-  where
-    at : Call → Bool
-    at Recover = true
-    at c = false
+is_recover e = is_accepted e.answer && is_recover_call e.call
 
 -- a recover was called in the state since repair was last ended
 abbrev pub recovered_in : Net → List Happened → ℕ → Bool

@@ -1,11 +1,13 @@
 -- Runs of calls, and the journal of one.
-use Rattle.std.specs.Prelude.{ℕ, List, [], ◌∷◌}
+use Rattle.std.specs.Prelude.{ℕ, List, [], ◌∷◌, ◌++◌}
 use Rattle.atn_graph.specs.Net.{Net}
+use Rattle.records.specs.Heard.{Told}
 use Rattle.recovery_model.specs.declared.call.Call.{Call}
 use Rattle.recovery_model.specs.declared.event.Event.{Event}
 use Rattle.recovery_model.specs.Calls.{Said, said}
 use Rattle.recovery_model.specs.Sets.{WithinSets}
 use Rattle.recovery_model.specs.Views.{View, place}
+use Rattle.recovery_model.specs.Outcomes.{Outcome}
 use Rattle.recovery_model.specs.Steps.{step}
 
 -- a call, what it answered, and the own indexes of the first token shown before it and after it
@@ -18,14 +20,36 @@ pub record Happened : Type 0 where
 abbrev pub happened : Event → Happened
 happened e = record { call = e.call; answer = said e.answer; before = e.before; after = e.after }
 
-abbrev pub happens : Net → WithinSets → Call → View → Happened
-happens n w c v = record { call = c; answer = (step n w c v).answer; before = place v; after = place (step n w c v).view }
+-- what calls do, by any rule
+abbrev pub Machine : Type 0
+Machine = Call → View → Outcome
+
+abbrev pub happens_of : Machine → Call → View → Happened
+happens_of m c v = record { call = c; answer = (m c v).answer; before = place v; after = place (m c v).view }
 
 -- what the calls leave, one after the other
+abbrev pub run_of : Machine → List Call → View → View
+run_of m [] v = v
+run_of m (c ∷ cs) v = run_of m cs (m c v).view
+
+abbrev pub journal_of : Machine → List Call → View → List Happened
+journal_of m [] v = []
+journal_of m (c ∷ cs) v = happens_of m c v ∷ journal_of m cs (m c v).view
+
+-- what the listener is told
+abbrev pub told_of_run : Machine → List Call → View → List Told
+told_of_run m [] v = []
+told_of_run m (c ∷ cs) v = (m c v).told ++ told_of_run m cs (m c v).view
+
+-- the same of the parser
+abbrev pub happens : Net → WithinSets → Call → View → Happened
+happens n w = happens_of (step n w)
+
 abbrev pub run : Net → WithinSets → List Call → View → View
-run n w [] v = v
-run n w (c ∷ cs) v = run n w cs (step n w c v).view
+run n w = run_of (step n w)
 
 abbrev pub journal : Net → WithinSets → List Call → View → List Happened
-journal n w [] v = []
-journal n w (c ∷ cs) v = happens n w c v ∷ journal n w cs (step n w c v).view
+journal n w = journal_of (step n w)
+
+abbrev pub told_in : Net → WithinSets → List Call → View → List Told
+told_in n w = told_of_run (step n w)

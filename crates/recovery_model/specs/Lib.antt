@@ -2,6 +2,7 @@ pub mod Calls
 pub mod Sets
 pub mod Views
 pub mod Passing
+pub mod Outcomes
 pub mod Repairs
 pub mod Syncs
 pub mod Recovering
@@ -12,3 +13,5 @@ pub mod Histories
 pub mod Notes
 pub mod Law
 pub mod TapeLaw
+pub mod Coherent
+pub mod Questions

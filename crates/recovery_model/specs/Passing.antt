@@ -1,16 +1,12 @@
 -- Passing tokens, and reporting.
-use Rattle.std.specs.Prelude.{ℕ, zero, suc, ◌+◌, ◌-◌, min, Bool, ◌||◌, List, [], ◌∷◌, ◌++◌, length, ℤ, None, unwrap_or, if◌then◌else◌, find}
-use Rattle.token.specs.declared.token_type.TokenType.{TokenType}
-use Rattle.token.specs.declared.token_type.TokenType.TheVariants.{Eof, Of}
+use Rattle.std.specs.Prelude.{ℕ, zero, suc, ◌+◌, ◌-◌, min, Bool, true, false, ◌||◌, List, [], ◌∷◌, ◌++◌, length, ℤ, None, if◌then◌else◌}
 use Rattle.token.specs.Tokens.{Fields, type_number, is_eof}
 use Rattle.token_stream.specs.Streams.{passed}
 use Rattle.records.specs.declared.leaf.LeafKind.{LeafKind}
 use Rattle.records.specs.declared.leaf.LeafKind.TheVariants.{Terminal, Error}
-use Rattle.records.specs.declared.report.Report.{Report}
 use Rattle.records.specs.declared.report.ReportKind.{ReportKind}
 use Rattle.records.specs.Leaves.{Said}
-use Rattle.records.specs.Heard.{hears}
-use Rattle.records.specs.Reports.{types_in}
+use Rattle.records.specs.Heard.{Told, told_at}
 use Rattle.recovery_model.specs.declared.notes.Mode.{Mode}
 use Rattle.recovery_model.specs.declared.notes.Mode.TheVariants.{Settled, InRepair}
 use Rattle.recovery_model.specs.declared.open_rule.OpenRule.{OpenRule}
@@ -33,43 +29,51 @@ leaf kind t v = record { kind = kind; depth = length v.open_rules; rule = innerm
 abbrev pub add : LeafKind → Fields → View → View
 add kind t v = record v { leaves = v.leaves ++ leaf kind t v ∷ []; free = v.free - 1; open_rules = raised v.open_rules }
 
+-- why a token is passed: a call took it, it was deleted alone, or a search passed it
+pub data Reason : Type 0 where
+  Taken : Reason
+  Deleted : Reason
+  Searched : Reason
+
 -- in repair a token that is passed is an error
-abbrev pub leaf_kind : Mode → LeafKind
-leaf_kind Settled = Terminal
-leaf_kind InRepair = Error
+abbrev pub leaf_kind : Reason → Mode → LeafKind
+leaf_kind Taken Settled = Terminal
+leaf_kind Taken InRepair = Error
+leaf_kind Deleted Settled = Terminal
+leaf_kind Deleted InRepair = Error
+leaf_kind Searched Settled = Terminal
+leaf_kind Searched InRepair = Error
 
 -- The current token becomes a leaf, and is dropped unless it is EOF.
-abbrev pub pass : View → View
-pass v = record (add (leaf_kind v.noted.mode) (current v) v) { shown = passed v.shown }
+abbrev pub pass : Reason → View → View
+pass why v = record (add (leaf_kind why v.noted.mode) (current v) v) { shown = passed v.shown }
 
-abbrev pub pass_many : ℕ → View → View
-pass_many zero v = v
-pass_many (suc k) v = pass_many k (pass v)
+abbrev pub pass_many : Reason → ℕ → View → View
+pass_many why zero v = v
+pass_many why (suc k) v = pass_many why k (pass why v)
 
 -- how many tokens stand before EOF or the first of such a type
 abbrev pub before : (ℤ → Bool) → List Fields → ℕ
 before types [] = 0
 before types (t ∷ ts) = if is_eof t.typ || types (type_number t.typ) then 0 else suc (before types ts)
 
--- the smallest type that passes the test, or type 0
-abbrev pub types_above : ℕ → ℕ → List TokenType
-types_above zero t = []
-types_above (suc k) t = Of t ∷ types_above k (t + 1)
+abbrev pub in_repair : View → Bool
+in_repair v = at v.noted.mode
+  where
+    at : Mode → Bool
+    at Settled = false
+    at InRepair = true
 
-abbrev pub smallest : (ℤ → Bool) → TokenType
-smallest types = unwrap_or (find (λ t. types (type_number t)) (Eof ∷ types_above 256 0)) (Of 0)
-
--- The report of a token where these types were expected.
-abbrev pub report_of : ReportKind → Fields → (ℤ → Bool) → Report
-report_of kind t types = record { kind = kind; index = t.index; line = t.position.0; column = t.position.1; expected = types_in types; smallest = smallest types }
+-- what is told of a token where these types were expected
+abbrev pub told_of : ReportKind → Fields → (ℤ → Bool) → Told
+told_of kind t types = told_at kind t.index t.position types
 
 -- A report begins repair; in repair none is given.
-abbrev pub reported : Report → View → View
-reported r v = at v.noted.mode
-  where
-    at : Mode → View
-    at Settled = record v { heard = hears r v.heard; noted = record v.noted { mode = InRepair } }
-    at InRepair = v
+abbrev pub begun : View → View
+begun v = record v { noted = record v.noted { mode = InRepair } }
+
+abbrev pub given : Told → View → List Told
+given t v = if in_repair v then [] else t ∷ []
 
 -- Repair is ended: mode, place and marks are cleared, and the saved pair stays.
 abbrev pub ended : View → View

@@ -1,18 +1,19 @@
--- What each call does and answers.
-use Rattle.std.specs.Prelude.{ℕ, ◌==◌, List, [], ◌∷◌, Option, Some, None, if◌then◌else◌}
+-- What each call does, answers and tells.
+use Rattle.std.specs.Prelude.{◌≡◌, ℕ, ◌==◌, List, [], ◌∷◌, Option, Some, None, if◌then◌else◌}
 use Rattle.errors.specs.declared.denial.Denial.{Denial}
 use Rattle.atn_graph.specs.Net.{Net, rule_at}
-use Rattle.records.specs.declared.report.Report.{Report as ReportRecord}
+use Rattle.ll1_analyzer.specs.Chains.{follow_states}
 use Rattle.records.specs.declared.report.ReportKind.TheVariants.{NoViableAlternative, InputMismatch, FailedPredicate}
-use Rattle.recovery_model.specs.Calls.{Kept, Done, Left, Denied}
+use Rattle.records.specs.Heard.{Told}
 use Rattle.recovery_model.specs.declared.call.Call.{Call}
 use Rattle.recovery_model.specs.declared.call.Call.TheVariants.{State, Enter, Leave, Match, Wildcard, Sync, Report, Recover}
 use Rattle.recovery_model.specs.declared.open_rule.OpenRule.{OpenRule}
-use Rattle.ll1_analyzer.specs.Chains.{follow_states}
+use Rattle.recovery_model.specs.Calls.{Kept, Done, Left, Denied, fits}
 use Rattle.recovery_model.specs.Sets.{WithinSets, expected, no_types}
-use Rattle.recovery_model.specs.Views.{View, current}
-use Rattle.recovery_model.specs.Passing.{report_of, reported}
-use Rattle.recovery_model.specs.Repairs.{Outcome, does, matched, matches, matches_any}
+use Rattle.recovery_model.specs.Views.{View, current, ahead}
+use Rattle.recovery_model.specs.Passing.{told_of, begun, given}
+use Rattle.recovery_model.specs.Outcomes.{Outcome, does, telling}
+use Rattle.recovery_model.specs.Repairs.{matched}
 use Rattle.recovery_model.specs.Syncs.{syncs}
 use Rattle.recovery_model.specs.Recovering.{recovers}
 use Rattle.recovery_model.specs.Denials.{denial}
@@ -29,35 +30,46 @@ left v = at v.open_rules
     at [] = does v Done
     at (o ∷ os) = does (record v { state = o.invoking; open_rules = os }) (Left o.leaves)
 
--- the types that were expected where a mismatch arose
-abbrev pub expected_at : Net → WithinSets → Kept → ReportRecord
-expected_at n w m = report_of InputMismatch m.token (expected w m.state (follow_states n m.chain))
+-- what is told of the mismatch that is kept: the types that were expected where it arose
+abbrev pub mismatched : Net → WithinSets → Kept → Told
+mismatched n w m = told_of InputMismatch m.token (expected w m.state (follow_states n m.chain))
 
--- Kind 1 is no viable alternative, 2 the mismatch that is kept, 3 a failed predicate.
-abbrev pub reports : Net → WithinSets → ℕ → View → View
+abbrev pub reporting : Told → View → Outcome
+reporting t v = telling (given t v) (does (begun v) Done)
+
+-- Kind 1 is no viable alternative, 2 the mismatch that is kept, 3 a failed predicate. Kinds 1 and 3 tell no expected types.
+abbrev pub reports : Net → WithinSets → ℕ → View → Outcome
 reports n w k v =
     if k == 2 then at v.kept
-    else reported (report_of (if k == 1 then NoViableAlternative else FailedPredicate) (current v) no_types) v
+    else reporting (told_of (if k == 1 then NoViableAlternative else FailedPredicate) (current v) no_types) v
   where
-    at : Option Kept → View
-    at None = v
-    at (Some m) = reported (expected_at n w m) v
+    at : Option Kept → Outcome
+    at None = does v Done
+    at (Some m) = reporting (mismatched n w m) v
 
 -- what an accepted call does
 abbrev pub accepted : Net → WithinSets → Call → View → Outcome
 accepted n w (State s) v = does (record v { state = Some s }) Done
 accepted n w (Enter r) v = does (entered n r v) Done
 accepted n w Leave v = left v
-accepted n w (Match t) v = matched (matches t v) n w v
-accepted n w Wildcard v = matched (matches_any v) n w v
+accepted n w (Match t) v = matched (fits (Match t) (ahead v 1)) n w v
+accepted n w Wildcard v = matched (fits Wildcard (ahead v 1)) n w v
 accepted n w Sync v = syncs n w v
-accepted n w (Report k) v = does (reports n w k v) Done
+accepted n w (Report k) v = reports n w k v
 accepted n w Recover v = recovers n w v
 
--- A call that is denied does nothing.
+-- what a denied call does: nothing
+abbrev pub refused : Denial → View → View
+refused d v = v
+
 abbrev pub step : Net → WithinSets → Call → View → Outcome
 step n w c v = at (denial n w c v)
   where
     at : Option Denial → Outcome
     at None = accepted n w c v
-    at (Some d) = does v (Denied d)
+    at (Some d) = does (refused d v) (Denied d)
+
+-- A call that is denied leaves the whole view, and tells nothing.
+pub record DeniedLeavesAll (n : Net) (w : WithinSets) (c : Call) (v : View) : Type 0 where
+  pub view : (d : Denial) → (step n w c v).answer ≡ Denied d → (step n w c v).view ≡ v
+  pub told : (d : Denial) → (step n w c v).answer ≡ Denied d → (step n w c v).told ≡ []

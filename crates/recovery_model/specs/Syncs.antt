@@ -3,15 +3,12 @@ use Rattle.std.specs.Prelude.{ℕ, Bool, true, false, not, ◌&&◌, ◌||◌, �
 use Rattle.atn_graph.specs.declared.atn_state.StateKind.{StateKind}
 use Rattle.atn_graph.specs.declared.atn_state.StateKind.TheVariants.{BlockStart, PlusBlockStart, StarBlockStart, StarLoopEntry, StarLoopBack, PlusLoopBack}
 use Rattle.atn_graph.specs.Net.{Net, state_at}
-use Rattle.ll1_analyzer.specs.Sets.{epsilon}
-use Rattle.records.specs.declared.report.ReportKind.TheVariants.{UnwantedToken}
 use Rattle.recovery_model.specs.Calls.{Done}
-use Rattle.recovery_model.specs.declared.notes.Mode.{Mode}
-use Rattle.recovery_model.specs.declared.notes.Mode.TheVariants.{Settled, InRepair}
 use Rattle.recovery_model.specs.Sets.{WithinSets, recovery}
-use Rattle.recovery_model.specs.Views.{View, current, ahead, here, follows, own_pair}
-use Rattle.recovery_model.specs.Passing.{before, pass_many, report_of, reported}
-use Rattle.recovery_model.specs.Repairs.{Outcome, does, expects, is_extra, struck, mismatch_at, mismatches}
+use Rattle.recovery_model.specs.Views.{View, ahead, here, follows, own_pair}
+use Rattle.recovery_model.specs.Passing.{Searched, before, pass_many, in_repair, begun, given}
+use Rattle.recovery_model.specs.Outcomes.{Outcome, does, telling}
+use Rattle.recovery_model.specs.Repairs.{expects, is_extra, unwanted, struck, mismatch_at, mismatches}
 
 -- the kinds of states on which a parser may stand before a choice: at the start of a block or the entry of a loop, on the way
 -- back of a loop, or neither
@@ -32,19 +29,12 @@ choice kind = Neither
 abbrev pub choice_here : Net → View → Choice
 choice_here n v = choice (state_at n (here v)).kind
 
-abbrev pub in_repair : View → Bool
-in_repair v = at v.noted.mode
-  where
-    at : Mode → Bool
-    at Settled = false
-    at InRepair = true
-
 -- the current token may come here, or what comes here may be nothing
 abbrev pub may_come : WithinSets → View → Bool
-may_come w v = w (here v) (ahead v 1)
+may_come w v = w.types (here v) (ahead v 1)
 
 abbrev pub may_be_nothing : WithinSets → View → Bool
-may_be_nothing w v = w (here v) epsilon
+may_be_nothing w v = w.end (here v)
 
 -- the types at which a search ends: what is expected, or may follow an open rule
 abbrev pub stops_at : Net → WithinSets → View → ℤ → Bool
@@ -56,8 +46,10 @@ must_act w v = not (in_repair v) && not (may_come w v) && not (may_be_nothing w 
 
 -- where a choice begins one token is struck if that helps; on the way back of a loop tokens are passed to one that fits
 abbrev pub acts : Choice → Net → WithinSets → View → Outcome
-acts Begins n w v = if is_extra n w v then does (struck n w v) Done else mismatches (mismatch_at (own_pair v) v) v
-acts GoesBack n w v = does (pass_many (before (stops_at n w v) v.shown) (reported (report_of UnwantedToken (current v) (expects n w v)) v)) Done
+acts Begins n w v =
+    if is_extra n w v then telling (given (unwanted n w v) v) (does (struck v) Done) else mismatches (mismatch_at (own_pair v) v) v
+acts GoesBack n w v =
+    telling (given (unwanted n w v) v) (does (pass_many Searched (before (stops_at n w v) v.shown) (begun v)) Done)
 acts Neither n w v = does v Done
 
 -- In repair nothing is done. A token that may come clears the saved pair; where nothing may come the pair is saved, unless
@@ -82,5 +74,6 @@ abbrev pub is_misplaced : Net → WithinSets → View → Bool
 is_misplaced n w v = must_act w v && at (choice_here n v)
   where
     at : Choice → Bool
+    at Begins = false
+    at GoesBack = false
     at Neither = true
-    at c = false

@@ -6,11 +6,12 @@ use Rattle.atn_graph.specs.Net.{Net}
 use Rattle.token.specs.Tokens.{Fields}
 use Rattle.token_stream.specs.Streams.{Shows}
 use Rattle.recovery_model.specs.declared.call.Call.{Call}
-use Rattle.ll1_analyzer.specs.Sets.{Expected, InContext, Recovery}
-use Rattle.recovery_model.specs.Sets.{WithinSets, Agree, expected as expected_test, recovery as recovery_test}
+use Rattle.ll1_analyzer.specs.Sets.{Within, Expected, InContext, Recovery}
+use Rattle.recovery_model.specs.Sets.{WithinSets, Agree, within as within_test, expected as expected_test, recovery as recovery_test}
 use Rattle.recovery_model.specs.Views.{View, nothing_noted}
-use Rattle.recovery_model.specs.Syncs.{in_repair}
-use Rattle.recovery_model.specs.Journals.{Happened, run, journal}
+use Rattle.recovery_model.specs.Passing.{in_repair}
+use Rattle.recovery_model.specs.Steps.{step}
+use Rattle.recovery_model.specs.Journals.{Happened, Machine, run_of, journal_of, run, journal}
 use Rattle.recovery_model.specs.Histories.{repairing}
 use Rattle.recovery_model.specs.Law.{Law}
 use Rattle.recovery_model.specs.Notes.{Tells}
@@ -24,12 +25,14 @@ pub record New (v : View) : Type 0 where
   pub kept : v.kept ≡ None
   pub shows : Shows v.tape v.shown
 
+-- The calls keep the tape law, of what was shown and which leaves there were at first and of what they leave, by whatever rule.
+abbrev pub KeepsLaw : Net → Machine → View → List Call → Type 0
+KeepsLaw n m v cs = Law n v.shown v.leaves (journal_of m cs v) (run_of m cs v).shown (run_of m cs v).leaves
+
 -- The tape law, for every checked net, every sets that are the net's by walks, every new parser and every list of calls,
 -- denied ones too.
 abbrev pub TapeLaw : Type 0
-TapeLaw =
-    (a : Atn) (w : WithinSets) → Agree (net_of a) w → (v : View) → New v → (cs : List Call) →
-    Law (net_of a) v.shown v.leaves (journal (net_of a) w cs v) (run (net_of a) w cs v).shown (run (net_of a) w cs v).leaves
+TapeLaw = (a : Atn) (w : WithinSets) → Agree (net_of a) w → (v : View) → New v → (cs : List Call) → KeepsLaw (net_of a) (step (net_of a) w) v cs
 
 -- What a parser notes is what the history says: the mode, by faults that were reported, and the rest.
 pub record Told (n : Net) (w : WithinSets) (first : List Fields) (h : List Happened) (v : View) : Type 0 where
@@ -44,6 +47,7 @@ NotesTell =
 
 -- By sets that agree, the steps look at the sets that walks define.
 pub record SetsAreWalks (a : Atn) (w : WithinSets) : Type 0 where
+  pub within : (s : ℕ) (x : ℤ) → Decides (within_test w s x) (Within (net_of a) s x)
   pub expected : (s : ℕ) (follows : List ℕ) (x : ℤ) → Decides (expected_test w s follows x) (Expected (net_of a) s follows x)
   pub in_context : (s : ℕ) (follows : List ℕ) (x : ℤ) → Decides (expected_test w s follows x) (InContext (net_of a) s follows x)
   pub recovery : (follows : List ℕ) (x : ℤ) → Decides (recovery_test w follows x) (Recovery (net_of a) follows x)

@@ -4,7 +4,6 @@ use Rattle.std.specs.List.{flat_map}
 use Rattle.atn_graph.specs.Net.{Net}
 use Rattle.ll1_analyzer.specs.Chains.{follow_states}
 use Rattle.records.specs.Leaves.{Said}
-use Rattle.records.specs.Heard.{Heard}
 use Rattle.token.specs.Tokens.{Fields, type_number, own}
 use Rattle.token_stream.specs.Tapes.{token_at}
 use Rattle.token_stream.specs.Streams.{shown_at}
@@ -26,14 +25,13 @@ pub record Noted : Type 0 where
   pub marks : List Bool
   pub saved : Option Pair
 
--- The stream's tape, and what it shows; the leaves, and the room for more; the reports; the state; the open rules, innermost
--- first; what is noted; the mismatch that is kept; and whether tokens of the stream's kind have a start and a stop.
+-- The stream's tape, and what it shows; the leaves, and the room for more; the state; the open rules, innermost first; what is
+-- noted; the mismatch that is kept; and whether tokens of the stream's kind have a start and a stop.
 pub record View : Type 0 where
   pub tape : List Fields
   pub shown : List Fields
   pub leaves : List Said
   pub free : ℕ
-  pub heard : Heard
   pub state : Option ℕ
   pub open_rules : List OpenRule
   pub noted : Noted

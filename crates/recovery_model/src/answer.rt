@@ -6,14 +6,14 @@ use crate::token_fields::TokenFields;
 use errors::denial::Denial;
 use fixed_vec::fixed_vec::FixedVec;
 
-// The invoking states of open rules, innermost first.
-pub type Chain = FixedVec<usize, 63>;
+// The invoking states of open rules, innermost first, in 16 bits each: a net has at most 512 states.
+pub type Chain = FixedVec<u16, 63>;
 
 // A token that did not match, and where the parser stood: its state, and the chain of its open rules.
 #[derive(Clone, Copy)]
 pub struct Mismatch {
     pub token: TokenFields,
-    pub state: usize,
+    pub state: u16,
     pub chain: Chain,
 }
 

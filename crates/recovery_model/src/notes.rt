@@ -10,7 +10,7 @@ pub enum Mode {
 // Where the parser stood when a state was reached that may be passed by: its state and its chain.
 #[derive(Clone, Copy)]
 pub struct Saved {
-    pub state: usize,
+    pub state: u16,
     pub chain: Chain,
 }
 

@@ -7,7 +7,7 @@ use Rattle.recovery_model.specs.TapeLaw.{Told}
 use Rattle.recovery_model.proofs.Fitting.{fit_of}
 use Rattle.ll1_analyzer.proofs.Context.{context_of_joined, joined_of_context}
 use Rattle.recovery_model.proofs.Searching.{decides_recovery}
-use Rattle.recovery_model.proofs.Setting.{decides_joined}
+use Rattle.recovery_model.proofs.Setting.{decides_joined, decides_within}
 use Rattle.recovery_model.proofs.Keeping.{law_but_last}
 use Rattle.recovery_model.proofs.Counting.{few_recovers}
 use Rattle.recovery_model.proofs.Telling.{tells_none, tells_run}
@@ -19,6 +19,7 @@ returns c = record {
   sets = λ a w agree.
       let n = net_of a in
       record {
+        within = decides_within n w agree;
         expected = λ s fs x. decides_joined n w agree (s ∷ fs) x;
         in_context = λ s fs x. (
           (λ e. context_of_joined a s fs x ((decides_joined n w agree (s ∷ fs) x).0 e)),
