@@ -1,5 +1,6 @@
 pub mod Calls
 pub mod Sets
+pub mod Existing
 pub mod Views
 pub mod Passing
 pub mod Repairs
