@@ -16,3 +16,4 @@ pub mod Rooms
 pub mod Nulls
 pub mod Reached
 pub mod Existing
+pub mod LeafLimits
