@@ -13,3 +13,8 @@ pub mod Below
 pub mod Past
 pub mod Counting
 pub mod Setting
+pub mod Rooms
+pub mod Nulls
+pub mod Reached
+pub mod Existing
+pub mod LeafLimits

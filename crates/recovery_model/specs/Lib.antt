@@ -1,5 +1,7 @@
 pub mod Calls
 pub mod Sets
+pub mod Existing
+pub mod LeafLimits
 pub mod Views
 pub mod Passing
 pub mod Outcomes

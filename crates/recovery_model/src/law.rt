@@ -1,8 +1,14 @@
-// Theorems about runs of calls.
+// Theorems about runs of calls, the sets that they look at, and the leaves that they add.
+ghost use Rattle.std.specs.Prelude.{List};
 ghost use Rattle.recovery_model.specs.TapeLaw.{TapeLaw, NotesTell, SetsAreWalks};
 ghost use Rattle.recovery_model.specs.Sets.{WithinSets, Agree};
+ghost use Rattle.recovery_model.specs.Existing.{SetsExist, SetsOnce};
+ghost use Rattle.recovery_model.specs.LeafLimits.{ShownFit, MadeUpFit};
 ghost use Rattle.atn.specs.declared.atn.Atn.{Atn};
 ghost use Rattle.atn.specs.Checked.{net_of};
+ghost use Rattle.atn_graph.specs.Net.{Net};
+ghost use Rattle.token.specs.Tokens.{Fields};
+ghost use Rattle.token_stream.specs.Streams.{Shows};
 
 // Every list of calls of a new parser keeps the tape law; and what the parser notes, by which it recovers, is
 // what the law's words say.
@@ -10,4 +16,16 @@ pub fn tape_law()
     ensures sets { (a : Atn) (w : WithinSets) → Agree (net_of a) w → SetsAreWalks a w }
     ensures law { TapeLaw }
     ensures notes { NotesTell }
+{}
+
+// Every checked net has within-rule sets, as tests that agree with its walks; and no two that differ agree.
+pub fn sets_exist()
+    ensures exist { (a : Atn) → SetsExist a }
+    ensures once { (n : Net) → SetsOnce n }
+{}
+
+// A leaf can be made of every token that a stream shows, and of one that is made up in the place of a token of the tape.
+pub fn leaves_fit()
+    ensures shown_leaves { (tape shown : List Fields) → Shows tape shown → ShownFit shown }
+    ensures made_up_leaves { (tape shown : List Fields) → Shows tape shown → MadeUpFit tape }
 {}
