@@ -18,3 +18,6 @@ pub mod Nulls
 pub mod Reached
 pub mod Existing
 pub mod LeafLimits
+pub mod Chaining
+pub mod Cohering
+pub mod Judging

@@ -3,6 +3,12 @@ ghost use Rattle.std.specs.Prelude.{List};
 ghost use Rattle.recovery_model.specs.TapeLaw.{TapeLaw, NotesTell, SetsAreWalks};
 ghost use Rattle.recovery_model.specs.Sets.{WithinSets, Agree};
 ghost use Rattle.recovery_model.specs.Existing.{SetsExist, SetsOnce};
+ghost use Rattle.recovery_model.specs.Views.{View};
+ghost use Rattle.recovery_model.specs.Coherent.{ViewsCohere};
+ghost use Rattle.recovery_model.specs.Questions.{OwnSets};
+ghost use Rattle.recovery_model.specs.Denials.{DeniedWithFirst};
+ghost use Rattle.recovery_model.specs.Steps.{DeniedLeavesAll};
+ghost use Rattle.recovery_model.specs.declared.call.Call.{Call};
 ghost use Rattle.recovery_model.specs.LeafLimits.{ShownFit, MadeUpFit};
 ghost use Rattle.atn.specs.declared.atn.Atn.{Atn};
 ghost use Rattle.atn.specs.Checked.{net_of};
@@ -28,4 +34,17 @@ pub fn sets_exist()
 pub fn leaves_fit()
     ensures shown_leaves { (tape shown : List Fields) → Shows tape shown → ShownFit shown }
     ensures made_up_leaves { (tape shown : List Fields) → Shows tape shown → MadeUpFit tape }
+{}
+
+// Each view that the calls of a new parser lead to is coherent, so no question that a parser asks is denied; and the sets
+// that it asks for of itself are those that the steps look at.
+pub fn views_cohere()
+    ensures cohere { (a : Atn) → ViewsCohere a }
+    ensures own_sets { (a : Atn) (w : WithinSets) (v : View) → Agree (net_of a) w → OwnSets (net_of a) w v }
+{}
+
+// What a call is denied with is the first denial that it meets, and then it leaves the whole view.
+pub fn denials_are_first()
+    ensures first { (n : Net) (w : WithinSets) (c : Call) (v : View) → DeniedWithFirst n w c v }
+    ensures leave_all { (n : Net) (w : WithinSets) (c : Call) (v : View) → DeniedLeavesAll n w c v }
 {}
