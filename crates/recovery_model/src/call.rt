@@ -5,13 +5,13 @@ ghost use Rattle.recovery_model.specs.Calls.{call_number};
 // A call, with the numbers that it is given: these may be any, and are judged by the call.
 #[derive(Clone, Copy, PartialEq, Eq, Debug)]
 pub enum Call {
-    State { state: usize },
-    Enter { rule: usize },
+    State { state: u32 },
+    Enter { rule: u32 },
     Leave,
     Match { token_type: i32 },
     Wildcard,
     Sync,
-    Report { kind: usize },
+    Report { kind: u32 },
     Recover,
 }
 
