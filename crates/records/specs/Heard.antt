@@ -1,11 +1,17 @@
 -- What a listener is told, and what it has heard and keeps of it.
 use Rattle.std.specs.Prelude.{◌≡◌, ℕ, ◌+◌, min, Bool, List, [], ◌∷◌, ◌++◌, length, take, drop, ℤ, Option, Some, None}
 use Rattle.records.specs.declared.report.Report.{Report}
+use Rattle.records.specs.declared.report.ReportKind.{ReportKind}
+use Rattle.records.specs.Reports.{report_at}
 
 -- What a listener is told: a report, and the types that were expected with it.
 pub record Told : Type 0 where
   pub report : Report
   pub types : ℤ → Bool
+
+-- the report of a token where these types were expected, and those types
+abbrev pub told_at : ReportKind → Option ℕ → ℕ × ℕ → (ℤ → Bool) → Told
+told_at kind index position types = record { report = report_at kind index position types; types = types }
 
 -- How many reports were heard, and the latest of them.
 pub record Heard : Type 0 where
