@@ -11,8 +11,7 @@ use Rattle.interval_set.specs.declared.set.IntervalSet.{IntervalSet}
 use Rattle.interval_set.specs.Intervals.{inside, from_to, has, smallest, largest, rising_from}
 use Rattle.interval_set.specs.Members.{intervals, holds, how_many}
 use Rattle.interval_set.proofs.Rising.{between, not_inside, inside_from, fit, rest, bounded, same_tests}
-use Rattle.token.specs.declared.token_type.TokenType.TheVariants.{Eof}
-use Rattle.records.specs.Reports.{expects, types_in, IsSmallest}
+use Rattle.records.specs.Reports.{expects, types_in}
 
 -- the numbers of a set are no greater than the largest
 topped : (low : ℤ) (is : List Interval) (x : ℤ) → rising_from low is ≡ true → has is x ≡ true → x ≤ℤ largest
@@ -62,16 +61,11 @@ all_but_first (suc n) p e =
     ]
 
 -- a smallest number that is no byte is -1
-is_eof : (s : IntervalSet) (m : ℤ) → holds s smallest ≡ false → holds s m ≡ true → (FitsUnsignedBits 8 m → ⊥) → m ≡ negsuc 0
+pub is_eof : (s : IntervalSet) (m : ℤ) → holds s smallest ≡ false → holds s m ≡ true → (FitsUnsignedBits 8 m → ⊥) → m ≡ negsuc 0
 is_eof s (pos n) none h never = let top = highest s (pos n) h in let byte : n < 256 = omega (arith, ints) in absurd (never byte)
 is_eof s (negsuc zero) none h never = refl
 is_eof s (negsuc (suc zero)) none h never = absurd (true≢false (sym h ∙ none))
 is_eof s (negsuc (suc (suc n))) none h never = let low = lowest s (negsuc (suc (suc n))) h in absurd (omega (arith, ints))
-
-pub eof_least : (s : IntervalSet) (m : ℤ) → holds s smallest ≡ false → holds s m ≡ true → ((x : ℤ) → holds s x ≡ true → m ≤ℤ x) → (FitsUnsignedBits 8 m → ⊥) → IsSmallest (holds s) Eof
-eof_least s m none h least never =
-    let e : m ≡ negsuc 0 = is_eof s m none h never in
-    record { some = λ x t. (ap (holds s) (sym e) ∙ h, omega (arith, ints, e, least x t)); none = λ all. absurd (true≢false (sym h ∙ all m)) }
 
 -- -2 is no type
 pub no_epsilon : (s : IntervalSet) → expects s smallest ≡ false

@@ -9,7 +9,7 @@ pub record Told : Type 0 where
   pub report : Report
   pub types : ℤ → Bool
 
--- what is told of a token where these types were expected
+-- the report of a token where these types were expected, and those types
 abbrev pub told_at : ReportKind → Option ℕ → ℕ × ℕ → (ℤ → Bool) → Told
 told_at kind index position types = record { report = report_at kind index position types; types = types }
 

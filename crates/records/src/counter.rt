@@ -1,6 +1,5 @@
 // A counter of reports.
 ghost use Rattle.std.specs.Prelude.{◌≡◌, [], None};
-ghost use Rattle.records.specs.Heard.{Heard, nothing};
 
 use crate::listener::Listener;
 use crate::report::Report;

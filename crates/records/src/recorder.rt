@@ -1,5 +1,6 @@
 // A recorder of reports.
 ghost use Rattle.std.specs.Prelude.{◌≡◌, ◌-◌, ◌≤◌, ◌++◌, [], ◌∷◌, None, length, take, drop};
+ghost use Rattle.records.specs.Heard.{Listing, lists};
 
 use crate::bounded_list::BoundedList;
 use crate::counter::Counter;

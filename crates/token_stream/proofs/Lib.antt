@@ -1,2 +1,3 @@
 pub mod Taping
 pub mod Looking
+pub mod Shown

@@ -36,7 +36,6 @@ first_index tape p l w =
 pub eof_at : (xs ts : List Fields) (j : ℕ) (b : Bool) → b ≡ is_eof (shown_at xs (pos j)).typ → xs ≡ ts → 0 < j → j ≤ length ts → is_eof (token_at ts (j - 1)).typ ≡ b
 eof_at xs ts j b is same some l = ap (λ t. is_eof t.typ) (sym (ahead_inside ts j some l)) ∙ ap (λ ys. is_eof (shown_at ys (pos j)).typ) (sym same) ∙ sym is
 
--- EOF is visible, so a hidden token is not the last
 -- one token more
 pub filtered_more : (ts : List Fields) (k : ℕ) → k < length ts → filtered (take (k + 1) ts) ≡ filtered (take k ts) ++ filtered (token_at ts k ∷ [])
 filtered_more ts k l = ap filtered (take_more ts k no_token l) ∙ filter-append visible (take k ts) (token_at ts k ∷ [])

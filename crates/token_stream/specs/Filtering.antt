@@ -4,7 +4,6 @@ use Rattle.std.proofs.lemmas.Bool.{or_left, cond-true}
 use Rattle.std.proofs.lemmas.List.{take_all, length_push, get_or_push, get_or_default}
 use Rattle.std.proofs.lemmas.List.Elements.{All-filter, All-from_get_or, filter_more}
 use Rattle.std.proofs.lemmas.List.Kept.{AllPairs-filter}
-use Rattle.std.proofs.lemmas.List.Sums.{length-filter, count_by-le-length}
 use Rattle.token.specs.Tokens.{Fields, is_eof, own}
 use Rattle.token_stream.specs.Tapes.{no_token, token_at}
 use Rattle.token_stream.specs.Streams.{Named, Shows, visible, filtered}
@@ -43,6 +42,7 @@ module _ (tape ts : List Fields) (s : Shows tape ts) where
 
   pub filter_shows : Shows tape (filtered ts)
   filter_shows = record {
+    sound = s.sound;
     ends = record {
       some = omega (arith, long);
       last = λ k e. ap (λ us. is_eof (token_at us k).typ) split ∙ ap (λ t. is_eof t.typ) (get_or_push kept last no_token k (omega (arith, e, long))) ∙ last_eof;
@@ -50,5 +50,4 @@ module _ (tape ts : List Fields) (s : Shows tape ts) where
     };
     rises = λ j k l m. (later j k no_token l m).1;
     named = λ k l. named k no_token l;
-    few = omega (arith, length-filter visible ts, count_by-le-length visible ts, s.few);
   }

@@ -50,6 +50,7 @@ module _ (tape : List Fields) (p : ℕ) (l : p < length tape) (w : Sound tape) w
 
   pub shows_from : Shows tape (drop p tape)
   shows_from = record {
+    sound = w;
     ends = ends;
     rises = λ j k h m. omega (arith, h, own_at j (omega (arith, h, m)), own_at k m);
     named = λ k h. record {
@@ -57,7 +58,6 @@ module _ (tape : List Fields) (p : ℕ) (l : p < length tape) (w : Sound tape) w
       inside = omega (arith, own_at k h, h, left, l);
       same = ap (token_at tape) (own_at k h) ∙ sym (at k);
     };
-    few = omega (arith, left, w.few);
   }
 
 -- a sound tape is one fact, however it is known

@@ -16,7 +16,6 @@ pub record Shows (tape shown : List Fields) : Type 0 where
   pub ends : EndsInEof shown
   pub rises : (j k : ℕ) → j < k → k < length shown → own (token_at shown j) < own (token_at shown k)
   pub named : (k : ℕ) → k < length shown → Named tape (token_at shown k)
-  pub few : length shown ≤ 65535
 
 -- What every question leaves as it was: the tape, and what is shown.
 pub record Keeps {S : Type 0} (tape shown : S → List Fields) (old new : S) : Type 0 where
