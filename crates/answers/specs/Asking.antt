@@ -1,9 +1,10 @@
 -- What the questions of a script are answered.
-use Rattle.std.specs.Prelude.{◌≡◌, ℕ, ◌-◌, List, [], ◌∷◌, Result}
+use Rattle.std.specs.Prelude.{◌≡◌, ℕ, ◌-◌, List, [], ◌∷◌, ℤ, Result, IfOk}
 use Rattle.errors.specs.declared.denial.Denial.{Denial}
+use Rattle.errors.specs.Denials.{DeniesFirst}
 use Rattle.interval_set.specs.declared.set.IntervalSet.{IntervalSet}
 use Rattle.atn_graph.specs.Net.{Net}
-use Rattle.ll1_analyzer.specs.Answers.{Answers}
+use Rattle.ll1_analyzer.specs.Answers.{HoldsExactly}
 use Rattle.ll1_analyzer.specs.Chains.{follow_states, StateFault, ChainFault, Fault}
 use Rattle.ll1_analyzer.specs.Sets.{Within as WithinRule, InContext as InContextSet, Expected as ExpectedSet, Recovery as RecoverySet}
 use Rattle.script.specs.declared.question.Ask.{Ask}
@@ -13,6 +14,12 @@ use Rattle.answers.specs.declared.asking.Reply.{Reply}
 use Rattle.answers.specs.declared.asking.Reply.TheVariants.{Set, Tokens as TokenList, Leaf as LeafReply}
 use Rattle.answers.specs.declared.shown.ShownToken.{ShownToken}
 use Rattle.answers.specs.Leaves.{LeafAnswer}
+
+-- A question about a set is denied with the first denial that fits, and else answered with a set that holds exactly what P
+-- tells of.
+pub record Answers (fault : Denial → Type 0) (P : ℤ → Type 0) (r : Result IntervalSet Denial) : Type 0 where
+  pub verdict : DeniesFirst fault r
+  pub set : IfOk r (λ s. HoldsExactly s P)
 
 -- the set that is asked for, or why it is denied
 abbrev pub SetAnswer : Net → Ask → Result IntervalSet Denial → Type 0

@@ -45,7 +45,7 @@ fn tokens_of<S: KeptSpan + Copy>(
 }
 
 // What is shown of the tape, or its denial.
-fn answer_tokens<T: Token, F: TokenFactory<Tok = T> + Drop>(
+fn answer_tokens<T: Token + Drop, F: TokenFactory<Tok = T> + Drop>(
     heap: Global,
     tokens: &[T],
     factory: F,

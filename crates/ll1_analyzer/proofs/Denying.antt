@@ -1,22 +1,20 @@
 -- Which questions about sets are denied.
-use Rattle.std.proofs.Common.{◌≡◌, ℕ, ◌<◌, ◌≤◌, Bool, true, false, List, ℤ, Option, Some, None, Result, Ok, Err, IsErrAnd, sym, refl, ap, ◌∙◌, subst, inl, inr, arith}
+use Rattle.std.proofs.Common.{◌≡◌, ℕ, ◌<◌, ◌≤◌, Bool, true, false, List, Option, Some, None, Result, Ok, Err, IsErrAnd, sym, refl, ap, ◌∙◌, subst, inl, inr, arith}
 use Rattle.std.specs.Prelude.{is_some, nat_lt, if◌then◌else◌}
 use Rattle.std.proofs.lemmas.Bool.{ltb-false}
 use Rattle.errors.specs.declared.denial.Denial.{Denial}
 use Rattle.errors.specs.declared.denial.Denial.TheVariants.{FaultyChain, StateOutside}
-use Rattle.errors.specs.Denials.{IsBefore, First}
+use Rattle.errors.specs.Denials.{IsBefore, First, DeniesFirst}
 use Rattle.errors.proofs.Firsts.{denies}
-use Rattle.interval_set.specs.declared.set.IntervalSet.{IntervalSet}
 use Rattle.atn_graph.specs.declared.atn_state.StateKind.{StateKind}
 use Rattle.atn_graph.specs.Net.{Net, size, state_at}
 use Rattle.atn.specs.Checked.{kind_of}
-use Rattle.ll1_analyzer.specs.Answers.{Answers}
 use Rattle.ll1_analyzer.specs.Chains.{StateFault, ChainFault, Fault}
 
 -- a denial that is handed on
-pub answers_denied : (fault : Denial → Type 0) (P : ℤ → Type 0) (r : Result IntervalSet Denial) (d : Denial) → IsErrAnd r (λ e. e ≡ d) → First fault d → Answers fault P r
-answers_denied fault P (Ok set) d is w = absurd is
-answers_denied fault P (Err e) d is w = record { verdict = denies fault e (subst (First fault) (sym is) w); set = tt }
+pub denied_as : {X : Type 0} (fault : Denial → Type 0) (r : Result X Denial) (d : Denial) → IsErrAnd r (λ e. e ≡ d) → First fault d → DeniesFirst fault r
+denied_as fault (Ok x) d is w = absurd is
+denied_as fault (Err e) d is w = denies fault e (subst (First fault) (sym is) w)
 
 -- a state has a kind exactly if it lies in the net
 kind_tells : (n : Net) (s : ℕ) (k : Option StateKind) → k ≡ kind_of n s → is_some k ≡ nat_lt s (size n)

@@ -7,8 +7,11 @@ use Rattle.interval_set.specs.declared.set.IntervalSet.{IntervalSet}
 use Rattle.interval_set.specs.Intervals.{from_to, inside}
 use Rattle.interval_set.specs.Members.{holds}
 use Rattle.atn_graph.specs.Net.{Net}
-use Rattle.ll1_analyzer.specs.Sets.{eof, epsilon, Within, Joined, Recovery}
+use Rattle.atn.specs.declared.atn.Atn.{Atn}
+use Rattle.atn.specs.Checked.{net_of}
+use Rattle.ll1_analyzer.specs.Sets.{eof, epsilon, CanEnd, Within, Joined, Recovery}
 use Rattle.ll1_analyzer.specs.Answers.{HoldsExactly}
+use Rattle.ll1_analyzer.proofs.Apart.{type_is_some, end_of_within, within_of_end, types_of_within}
 use Rattle.ll1_analyzer.proofs.Within.{decides_like, one}
 
 -- EPSILON is taken out of a set
@@ -36,23 +39,35 @@ pub record SoFar (n : Net) (all : List ℕ) (set : IntervalSet) (rest : List ℕ
   pub to : (x : ℤ) → Joined n all x → Part n set rest x
   pub from : (x : ℤ) → Part n set rest x → Joined n all x
 
-pub next_joined : (n : Net) (all : List ℕ) (set mid more after : IntervalSet) (f : ℕ) (rest : List ℕ) → SoFar n all set (f ∷ rest) → holds set epsilon ≡ true → TakenOut set mid → HoldsExactly more (Within n f) → ((x : ℤ) → holds after x ≡ (holds mid x || holds more x)) → SoFar n all after rest
-next_joined n all set mid more after f rest so on out h both = record { to = λ x j. to x (so.to x j); from = λ x p. so.from x (from x p) }
+-- at the first state its own set
+pub begun : (a : Atn) (s : ℕ) (rest : List ℕ) (set : IntervalSet) → HoldsExactly set (Within (net_of a) s) → SoFar (net_of a) (s ∷ rest) set rest
+begun a s rest set h = record { to = to; from = from }
   where
-    to : (x : ℤ) → Part n set (f ∷ rest) x → Part n after rest x
+    to : (x : ℤ) → Joined (net_of a) (s ∷ rest) x → Part (net_of a) set rest x
+    to x (inl e) = inl (type_is_some a s x e, (h x).1 (inl e))
+    to x (inr j) = inr ((h epsilon).1 (within_of_end (net_of a) s j.0), j.1)
+
+    from : (x : ℤ) → Part (net_of a) set rest x → Joined (net_of a) (s ∷ rest) x
+    from x (inl p) = inl (types_of_within (net_of a) s x p.0 ((h x).0 p.1))
+    from x (inr p) = inr (end_of_within a s ((h epsilon).0 p.0), p.1)
+
+pub next_joined : (a : Atn) (all : List ℕ) (set mid more after : IntervalSet) (f : ℕ) (rest : List ℕ) → SoFar (net_of a) all set (f ∷ rest) → holds set epsilon ≡ true → TakenOut set mid → HoldsExactly more (Within (net_of a) f) → ((x : ℤ) → holds after x ≡ (holds mid x || holds more x)) → SoFar (net_of a) all after rest
+next_joined a all set mid more after f rest so on out h both = record { to = λ x j. to x (so.to x j); from = λ x p. so.from x (from x p) }
+  where
+    to : (x : ℤ) → Part (net_of a) set (f ∷ rest) x → Part (net_of a) after rest x
     to x (inl p) = inl (p.0, both x ∙ or_left (holds mid x) _ (still set mid out x p.0 p.1))
-    to x (inr (e, inl j)) = inl (j.0, both x ∙ or_right (holds mid x) _ ((h x).1 j.1))
-    to x (inr (e, inr j)) = inr (both epsilon ∙ or_right (holds mid epsilon) _ ((h epsilon).1 j.0), j.1)
+    to x (inr (e, inl j)) = inl (type_is_some a f x j, both x ∙ or_right (holds mid x) _ ((h x).1 (inl j)))
+    to x (inr (e, inr j)) = inr (both epsilon ∙ or_right (holds mid epsilon) _ ((h epsilon).1 (within_of_end (net_of a) f j.0)), j.1)
 
-    at : (x : ℤ) → (x ≡ epsilon → ⊥) → (holds mid x ≡ true) ⊎ (holds more x ≡ true) → Part n set (f ∷ rest) x
+    at : (x : ℤ) → (x ≡ epsilon → ⊥) → (holds mid x ≡ true) ⊎ (holds more x ≡ true) → Part (net_of a) set (f ∷ rest) x
     at x ne (inl m) = inl (was set mid out x m)
-    at x ne (inr m) = inr (on, inl (ne, (h x).0 m))
+    at x ne (inr m) = inr (on, inl (types_of_within (net_of a) f x ne ((h x).0 m)))
 
-    again : (holds mid epsilon ≡ true) ⊎ (holds more epsilon ≡ true) → Within n f epsilon
+    again : (holds mid epsilon ≡ true) ⊎ (holds more epsilon ≡ true) → CanEnd (net_of a) f
     again (inl m) = absurd ((was set mid out epsilon m).0 refl)
-    again (inr m) = (h epsilon).0 m
+    again (inr m) = end_of_within a f ((h epsilon).0 m)
 
-    from : (x : ℤ) → Part n after rest x → Part n set (f ∷ rest) x
+    from : (x : ℤ) → Part (net_of a) after rest x → Part (net_of a) set (f ∷ rest) x
     from x (inl p) = at x p.0 (or_cases (holds mid x) (holds more x) (sym (both x) ∙ p.1))
     from x (inr p) = inr (on, inr (again (or_cases (holds mid epsilon) (holds more epsilon) (sym (both epsilon) ∙ p.0)), p.1))
 
@@ -100,16 +115,21 @@ module _ (n : Net) (follows : List ℕ) (x : ℤ) where
       from t = at t (cases_eq t.place i)
 
 -- those of all of them without EPSILON are the recovery set
-pub recovered : (n : Net) (follows : List ℕ) (set after : IntervalSet) (i : ℕ) → length follows ≡ i → ((x : ℤ) → Decides (holds set x) (WithinBefore n follows i x)) → TakenOut set after → HoldsExactly after (Recovery n follows)
-recovered n follows set after i all h out x = (λ a. let p = was set after out x a in to p.0 ((h x).0 p.1), λ r. still set after out x r.some ((h x).1 (from r)))
+pub recovered : (a : Atn) (follows : List ℕ) (set after : IntervalSet) (i : ℕ) → length follows ≡ i → ((x : ℤ) → Decides (holds set x) (WithinBefore (net_of a) follows i x)) → TakenOut set after → HoldsExactly after (Recovery (net_of a) follows)
+recovered a follows set after i all h out x =
+    (λ e. let p = was set after out x e in to p.0 ((h x).0 p.1), λ r. still set after out x (type_is_some a r.state x r.types) ((h x).1 (from r)))
   where
-    to : (x ≡ epsilon → ⊥) → WithinBefore n follows i x → Recovery n follows x
-    to ne t = record { state = get_or follows t.place 0; listed = (t.place, t.inside, get_or_default follows t.place _ 0 t.inside); within = t.within; some = ne }
+    to : (x ≡ epsilon → ⊥) → WithinBefore (net_of a) follows i x → Recovery (net_of a) follows x
+    to ne t = record {
+      state = get_or follows t.place 0;
+      listed = (t.place, t.inside, get_or_default follows t.place _ 0 t.inside);
+      types = types_of_within (net_of a) (get_or follows t.place 0) x ne t.within;
+    }
 
-    from : Recovery n follows x → WithinBefore n follows i x
+    from : Recovery (net_of a) follows x → WithinBefore (net_of a) follows i x
     from r = record {
       place = r.listed.0;
       inside = r.listed.1;
       before = omega (arith, r.listed.1, all);
-      within = subst (λ s. Within n s x) (sym (get_or_default follows r.listed.0 0 r.state r.listed.1 ∙ r.listed.2)) r.within;
+      within = subst (λ s. Within (net_of a) s x) (sym (get_or_default follows r.listed.0 0 r.state r.listed.1 ∙ r.listed.2)) (inl r.types);
     }

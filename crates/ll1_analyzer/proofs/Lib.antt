@@ -4,5 +4,6 @@ pub mod Keeping
 pub mod Reading
 pub mod Denying
 pub mod Labels
+pub mod Apart
 pub mod Context
 pub mod Joining

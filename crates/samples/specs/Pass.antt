@@ -7,7 +7,7 @@ use Rattle.atn_graph.specs.declared.atn_state.AtnState.{AtnState}
 use Rattle.atn_graph.specs.declared.transition.Transition.{Transition}
 use Rattle.atn_graph.specs.declared.transition.TransitionKind.TheVariants.{Epsilon, Rule, Atom}
 use Rattle.atn_graph.specs.Net.{Net}
-use Rattle.ll1_analyzer.specs.Sets.{eof, epsilon, Within}
+use Rattle.ll1_analyzer.specs.Sets.{eof, Types, CanEnd}
 
 -- a state of the rule, with the edges from number first up to number end
 abbrev pub state : ℕ → StateKind → ℕ → ℕ → AtnState
@@ -37,9 +37,14 @@ pass = record {
   intervals = [];
 }
 
--- The within-rule sets of four states of the pass net: its loop goes on with the type 1, or ends with the input.
+-- The within-rule sets of four states of the pass net: its loop goes on with the type 1, or ends with the input. Of the four a
+-- walk can end on a stop state from the stop state alone, and from there with no type.
 pub record PassSets : Type 0 where
-  pub at_loop_entry : (x : ℤ) → (Within pass 1 x ↔ ((x ≡ eof) ⊎ (x ≡ pos 1)))
-  pub at_loop_back : (x : ℤ) → (Within pass 3 x ↔ ((x ≡ eof) ⊎ (x ≡ pos 1)))
-  pub after_one : (x : ℤ) → (Within pass 8 x ↔ (x ≡ pos 2))
-  pub at_stop : (x : ℤ) → (Within pass 10 x ↔ (x ≡ epsilon))
+  pub at_loop_entry : (x : ℤ) → (Types pass 1 x ↔ ((x ≡ eof) ⊎ (x ≡ pos 1)))
+  pub at_loop_back : (x : ℤ) → (Types pass 3 x ↔ ((x ≡ eof) ⊎ (x ≡ pos 1)))
+  pub after_one : (x : ℤ) → (Types pass 8 x ↔ (x ≡ pos 2))
+  pub at_stop : (x : ℤ) → Types pass 10 x → ⊥
+  pub no_end_at_loop_entry : CanEnd pass 1 → ⊥
+  pub no_end_at_loop_back : CanEnd pass 3 → ⊥
+  pub no_end_after_one : CanEnd pass 8 → ⊥
+  pub end_at_stop : CanEnd pass 10

@@ -1,7 +1,8 @@
 // The pass net: any number of calls of a rule that takes the types 1, 2 and 3, and then the end of the input.
 ghost use Rattle.std.specs.Prelude.{◌≡◌, IsOk, IfOk};
+ghost use Rattle.errors.specs.Denials.{DeniesFirst};
 ghost use Rattle.atn.specs.Checked.{net_of};
-ghost use Rattle.ll1_analyzer.specs.Answers.{Answers};
+ghost use Rattle.ll1_analyzer.specs.Answers.{HoldsExactly};
 ghost use Rattle.ll1_analyzer.specs.Chains.{StateFault};
 ghost use Rattle.ll1_analyzer.specs.Sets.{Within};
 ghost use Rattle.samples.specs.Pass.{pass, PassSets};
@@ -38,7 +39,8 @@ pub fn pass_net() -> Result<Atn, Denial>
 
 // The within-rule set of a state of the pass net. A state past the last is denied.
 pub fn pass_next_tokens(s: usize) -> Result<IntervalSet, Denial>
-    ensures { Answers (StateFault pass s) (Within pass s) result }
+    ensures verdict { DeniesFirst (StateFault pass s) result }
+    ensures holds { IfOk result (λ set. HoldsExactly set (Within pass s)) }
 {
     let atn = pass_net()?;
     let mut analyzer = LL1Analyzer::new(&atn);

@@ -43,12 +43,18 @@ pub(crate) fn printed(heap: Global, text: &str) -> Result<String, Fail> {
     Ok(answer.to_string(heap)?)
 }
 
+// The rows, which are those of the pass net with an option before or a question behind them, are answered by the line.
+fn is_answered(rt: &impl Abort, heap: Global, rows: &str, line: &str) -> Result<(), Fail> {
+    let printed = printed(heap, rows)?;
+    let expected = format!(in heap; "net ok\n{line}\n")?;
+    assert_eq!(rt; printed.as_str(), expected.as_str());
+    Ok(())
+}
+
 fn answered(rt: &impl Abort, heap: Global, option: &str) -> Result<(), Fail> {
     for (question, line) in ASKED {
-        let text = format!(in heap; "{option}{PASS}{question}\n")?;
-        let printed = printed(heap, text.as_str())?;
-        let expected = format!(in heap; "net ok\n{line}\n")?;
-        assert_eq!(rt; printed.as_str(), expected.as_str());
+        let rows = format!(in heap; "{option}{PASS}{question}\n")?;
+        is_answered(rt, heap, rows.as_str(), line)?;
     }
     Ok(())
 }
@@ -66,6 +72,44 @@ fn by_the_table(rt: HostRuntime) -> Result<(), Fail> {
 #[test]
 fn by_the_cache(rt: HostRuntime) -> Result<(), Fail> {
     answered(&rt, rt.alloc(), "lookahead cache\n")
+}
+
+// All of a chain is looked at before anything is answered. The crate that this is modelled on goes through it only
+// as far as it needs to: from state 8 no walk can end, and from state 3, which follows the call at state 2, none either.
+#[test]
+fn with_a_chain_that_need_not_be_read(rt: HostRuntime) -> Result<(), Fail> {
+    let heap = rt.alloc();
+    for (question, answer) in [
+        // state 1 calls no rule
+        ("expected 8 1", "denied 5"),
+        ("expected 8 2 1", "denied 5"),
+        ("expected 10 2 1", "denied 5"),
+        // outside the net
+        ("expected 8 11", "denied 5"),
+        ("expected 8 2", "2"),
+    ] {
+        let rows = format!(in heap; "{PASS}{question}\n")?;
+        let line = format!(in heap; "{question}: {answer}")?;
+        is_answered(&rt, heap, rows.as_str(), line.as_str())?;
+    }
+    Ok(())
+}
+
+// A chain of 63 states, and one that is too long.
+#[test]
+fn with_the_longest_chain(rt: HostRuntime) -> Result<(), Fail> {
+    let heap = rt.alloc();
+    let mut question = String::from_str(heap, "expected 8")?;
+    for _ in 0..63 {
+        question.push_str(" 2")?;
+    }
+    for answer in ["2", "denied 5"] {
+        let rows = format!(in heap; "{PASS}{question}\n")?;
+        let line = format!(in heap; "{question}: {answer}")?;
+        is_answered(&rt, heap, rows.as_str(), line.as_str())?;
+        question.push_str(" 2")?;
+    }
+    Ok(())
 }
 
 // Questions about a denied net are not answered.
@@ -102,11 +146,23 @@ fn of_labels_that_join(rt: HostRuntime) -> Result<(), Fail> {
     set_of_the_start(&rt, rt.alloc(), rows, "net ok\nwithin 0: 1..5\n")
 }
 
-// An atom and a not-set edge of the same number to the same state.
+// A not-set edge and an atom, a range or a set of the same number to the same state, one behind the other: the
+// crate that this is modelled on drops the later edge.
 #[test]
 fn of_an_edge_beside_another(rt: HostRuntime) -> Result<(), Fail> {
-    let rows = "2\nstate 0 7 0\nedge 5 1 1 0\nedge 8 1 0 1\ninterval 1 1\nnet 2\n";
-    set_of_the_start(&rt, rt.alloc(), rows, "net ok\nwithin 0: 1..2\n")
+    let heap = rt.alloc();
+    for edges in [
+        "edge 5 1 1 0\nedge 8 1 0 1",
+        "edge 8 1 0 1\nedge 5 1 1 0",
+        "edge 2 1 1 1\nedge 8 1 0 1",
+        "edge 8 1 0 1\nedge 2 1 1 1",
+        "edge 7 1 0 1\nedge 8 1 0 1",
+        "edge 8 1 0 1\nedge 7 1 0 1",
+    ] {
+        let rows = format!(in heap; "2\nstate 0 7 0\n{edges}\ninterval 1 1\nnet 2\n")?;
+        set_of_the_start(&rt, heap, rows.as_str(), "net ok\nwithin 0: 1..2\n")?;
+    }
+    Ok(())
 }
 
 // As many states as a net may have, and a table of all their sets.

@@ -1,10 +1,9 @@
 use Rattle.std.proofs.Common.{◌+◌, get_or, refl, sym, ◌∙◌, subst, Decides, arith}
-use Rattle.errors.proofs.Firsts.{accepts}
 use Rattle.atn.specs.Checked.{net_of}
 use Rattle.ll1_analyzer.specs.Sets.{Within, Recovery}
 use Rattle.ll1_analyzer.specs.Answers.{HoldsExactly}
-use Rattle.ll1_analyzer.specs.Chains.{ChainFault, follow_states}
-use Rattle.ll1_analyzer.proofs.Denying.{answers_denied}
+use Rattle.ll1_analyzer.specs.Chains.{ChainFault}
+use Rattle.ll1_analyzer.proofs.Denying.{denied_as}
 use Rattle.ll1_analyzer.proofs.Keeping.{keeps_both}
 use Rattle.ll1_analyzer.proofs.Joining.{WithinBefore, joined_more, recovered}
 use Rattle.ll1_analyzer.proofs.sets.get_error_recovery_set.Goals as goal
@@ -21,18 +20,13 @@ loop-f-preserved g c =
           (subst (λ a. HoldsExactly c.within.result (Within (net_of a) (get_or fs i 0))) c.loop-f.invariant.keeps.net (c.within.ensures.answers (c.loop-f.invariant.keeps.agreement h)) x));
     }
 
-pub returns-clause-answers : goal.returns-clause-answers
-returns-clause-answers g c h =
-    let n = net_of (g.L.Lookahead.atn c.args.l.now) in
-    let w = c.in_ok-follows.ensures in
-    record {
-      verdict = accepts (ChainFault n c.args.chain.now) _ (w.verdict.accepted refl);
-      set = subst (λ fs. HoldsExactly c.remove_one.new.self (Recovery n fs)) (c.as_slice-f-items.ensures.items ∙ w.follows)
-          (recovered n c.as_slice-f-items.result.now c.loop-f.set c.remove_one.new.self c.loop-f.f-index (omega arith) (c.loop-f.invariant.joined h) c.remove_one.ensures);
-    }
+pub returns-clause-holds : goal.returns-clause-holds
+returns-clause-holds g c h =
+    let a = g.L.Lookahead.atn c.args.l.now in
+    subst (λ fs. HoldsExactly c.remove_one.new.self (Recovery (net_of a) fs)) (c.as_slice-f-items.ensures.items ∙ c.in_ok-follows.ensures.follows)
+    (recovered a c.as_slice-f-items.result.now c.loop-f.set c.remove_one.new.self c.loop-f.f-index (omega arith) (c.loop-f.invariant.joined h) c.remove_one.ensures)
 
-pub returns-in_err-follows-clause-answers : goal.returns-in_err-follows-clause-answers
-returns-in_err-follows-clause-answers g c h =
-    let n = net_of (g.L.Lookahead.atn c.args.l.now) in
+pub returns-in_err-follows-clause-verdict : goal.returns-in_err-follows-clause-verdict
+returns-in_err-follows-clause-verdict g c =
     let d = c.in_err-follows.field-0.0 in
-    answers_denied (ChainFault n c.args.chain.now) (Recovery n (follow_states n c.args.chain.now)) c.from_residual.result d c.from_residual.ensures.1 (c.in_err-follows.ensures.verdict.denied d refl)
+    denied_as (ChainFault (net_of (g.L.Lookahead.atn c.args.l.now)) c.args.chain.now) c.from_residual.result d c.from_residual.ensures.1 (c.in_err-follows.ensures.verdict.denied d refl)
