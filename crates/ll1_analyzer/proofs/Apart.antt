@@ -1,5 +1,5 @@
 -- In a within-rule set the types and the end stand apart: EPSILON is no type.
-use Rattle.std.proofs.Common.{◌≡◌, ◌≢◌, ◌↔◌, ℕ, ℤ, refl, inl, inr}
+use Rattle.std.proofs.Common.{◌≢◌, ◌↔◌, ℕ, ℤ, refl, inl, inr}
 use Rattle.atn_graph.specs.Net.{Net}
 use Rattle.atn.specs.declared.atn.Atn.{Atn}
 use Rattle.atn.specs.Checked.{net_of}
