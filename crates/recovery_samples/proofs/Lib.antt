@@ -1,4 +1,9 @@
+pub mod Deciding
 pub mod Tests
 pub mod Repaired
+pub mod ListTests
+pub mod ListKept
+pub mod Listed
 pub mod Fresh
+pub mod TooMany
 pub mod Broken

@@ -1,85 +1,122 @@
--- Steps with one fault each, and one run on which each of them breaks the tape law.
-use Rattle.std.specs.Prelude.{ℕ, List, [], ◌∷◌, Option, Some, None, is_some, if◌then◌else◌, false}
+-- Steps with one fault each, and runs on which each of them breaks the tape law.
+use Rattle.std.specs.Prelude.{◌≡◌, ℕ, List, [], ◌∷◌, ◌++◌, Option, Some, None, is_some, if◌then◌else◌, false, true, min, pos, replicate}
+use Rattle.std.specs.List.{flat_map}
 use Rattle.errors.specs.declared.denial.Denial.{Denial}
-use Rattle.records.specs.Heard.{nothing}
 use Rattle.samples.specs.Pass.{pass}
 use Rattle.recovery_model.specs.declared.call.Call.{Call}
-use Rattle.recovery_model.specs.declared.call.Call.TheVariants.{State, Enter, Recover}
-use Rattle.recovery_model.specs.Calls.{Done, Denied}
+use Rattle.recovery_model.specs.declared.call.Call.TheVariants.{State, Enter, Match, Recover}
+use Rattle.recovery_model.specs.Calls.{Done, Token, Denied, fits}
 use Rattle.recovery_model.specs.Sets.{WithinSets, Agree, no_types}
-use Rattle.recovery_model.specs.Views.{View, nothing_noted}
-use Rattle.recovery_model.specs.Passing.{pass_many}
-use Rattle.recovery_model.specs.Repairs.{Outcome, does}
-use Rattle.recovery_model.specs.Recovering.{searching, search_length, recovers}
+use Rattle.recovery_model.specs.Views.{View, current, place, ahead}
+use Rattle.recovery_model.specs.Passing.{Searched, pass_many, ended}
+use Rattle.recovery_model.specs.Outcomes.{Outcome, does}
+use Rattle.recovery_model.specs.Recovering.{searching, unstuck, search_length, recovers}
 use Rattle.recovery_model.specs.Denials.{denial}
-use Rattle.recovery_model.specs.Steps.{step}
-use Rattle.recovery_model.specs.TapeLaw.{New}
-use Rattle.recovery_samples.specs.Beginnings.{tokens}
-use Rattle.recovery_samples.specs.Machines.{Machine, Keeps, Breaks}
+use Rattle.recovery_model.specs.Steps.{accepted, refused, step}
+use Rattle.recovery_model.specs.Journals.{Happened, Machine, run_of, journal_of}
+use Rattle.recovery_model.specs.Histories.{shown_from, is_recover, searched_from}
+use Rattle.recovery_model.specs.Law.{end_place, Linked, Stands, EndsOn, recovers_at}
+use Rattle.recovery_model.specs.TapeLaw.{New, KeepsLaw}
+use Rattle.recovery_samples.specs.declared.faulty.Run.{Run}
+use Rattle.recovery_samples.specs.declared.faulty.Run.TheVariants.{Recovers, Rounds}
+use Rattle.recovery_samples.specs.Beginnings.{made}
 
--- the step, but for what an accepted recover does
-abbrev pub recovering : (View → Outcome) → WithinSets → Machine
-recovering does_so w Recover v = at (denial pass w Recover v)
+-- the step, but for what an accepted call does
+abbrev pub but : (WithinSets → Call → View → Outcome) → WithinSets → Machine
+but does_so w c v = at (denial pass w c v)
   where
     at : Option Denial → Outcome
-    at None = does_so v
-    at (Some d) = does v (Denied d)
-recovering does_so w c v = step pass w c v
+    at None = does_so w c v
+    at (Some d) = does (refused d v) (Denied d)
+
+-- but for what an accepted recover does
+abbrev pub recovering : (WithinSets → View → Outcome) → WithinSets → Call → View → Outcome
+recovering does_so w Recover v = does_so w v
+recovering does_so w c v = accepted pass w c v
 
 -- Recover notes its search, and passes nothing.
 abbrev pub stands_still : WithinSets → Machine
-stands_still w = recovering (λ v. does (searching v) Done) w
+stands_still = but (recovering (λ w v. does (searching v) Done))
 
 -- Recover passes nothing where a search is noted since repair was last ended.
 abbrev pub searches_once : WithinSets → Machine
-searches_once w = recovering (λ v. if is_some v.noted.last then does (searching v) Done else recovers pass w v) w
+searches_once = but (recovering (λ w v. if is_some v.noted.last then does (searching v) Done else recovers pass w v))
 
 -- The guard never skips a token.
 abbrev pub never_skips : WithinSets → Machine
-never_skips w = recovering (λ v. let u = searching v in does (pass_many (search_length pass w u) u) Done) w
+never_skips = but (recovering (λ w v. let u = searching v in does (pass_many Searched (search_length pass w u) u) Done))
+
+-- A search passes at most one token.
+abbrev pub passes_one : WithinSets → Machine
+passes_one = but (recovering (λ w v. let u = searching (unstuck v) in does (pass_many Searched (min (search_length pass w u) 1) u) Done))
 
 -- No leaf is ever added.
 abbrev pub adds_no_leaf : WithinSets → Machine
-adds_no_leaf w c v = does (record (step pass w c v).view { leaves = v.leaves; free = v.free }) (step pass w c v).answer
+adds_no_leaf w c v = let o = step pass w c v in record o { view = record (o.view) { leaves = v.leaves; free = v.free } }
 
 -- The sets are empty, whatever the net's are.
 abbrev pub is_blind : Machine
-is_blind = step pass (λ s. no_types)
+is_blind = step pass (record { types = λ s. no_types; end = λ s. false })
 
--- the types of the tape before EOF
-abbrev pub faulty_types : List ℕ
-faulty_types = 2 ∷ 1 ∷ 2 ∷ 3 ∷ []
+-- but for what an accepted match of the token first shown does
+abbrev pub matching : (View → Outcome) → WithinSets → Call → View → Outcome
+matching does_so w (Match t) v = if fits (Match t) (ahead v 1) then does_so v else accepted pass w (Match t) v
+matching does_so w c v = accepted pass w c v
 
--- Rule 0 is entered, and calls rule 1 in its loop. That takes a 1, but a 2 comes. The first recover ends on the 1, as does the
--- second; and the third skips it, so it ends on EOF.
-abbrev pub faulty_calls : List Call
-faulty_calls = Enter 0 ∷ State 2 ∷ Enter 1 ∷ State 7 ∷ Recover ∷ Recover ∷ Recover ∷ []
+-- A match of the token first shown answers it and ends repair, and does not pass it.
+abbrev pub answers_only : WithinSets → Machine
+answers_only = but (matching (λ v. does (ended v) (Token (current v))))
 
--- a parser that was just made, over that tape
-abbrev pub made : View
-made = record {
-  tape = tokens 0 faulty_types;
-  shown = tokens 0 faulty_types;
-  leaves = [];
-  free = 9;
-  heard = nothing [];
-  state = None;
-  open_rules = [];
-  noted = nothing_noted;
-  kept = None;
-  has_span = false;
-}
+-- the types of the tape of a run before EOF
+abbrev pub types_of : Run → List ℕ
+types_of Recovers = 2 ∷ 1 ∷ 2 ∷ 3 ∷ []
+types_of Rounds = 1 ∷ 2 ∷ 3 ∷ []
 
--- The step keeps the tape law on that run, and none of those with a fault does.
+-- Rule 0 is entered, and calls rule 1 in its loop. That takes a 1.
+abbrev pub opening : List Call
+opening = Enter 0 ∷ State 2 ∷ Enter 1 ∷ State 7 ∷ []
+
+-- What comes then. Where a 2 comes, the first recover ends on the 1, as does the second; and the third skips it, so it ends on
+-- EOF. Where a 1 comes, a recover ends on it and a match takes it; and that again, twelve times.
+abbrev pub calls_of : Run → List Call
+calls_of Recovers = Recover ∷ Recover ∷ Recover ∷ []
+calls_of Rounds = flat_map (λ c. Recover ∷ c ∷ []) (replicate 13 (Match (pos 1)))
+
+abbrev pub begins : Run → View
+begins r = made (types_of r)
+
+abbrev pub whole : Run → List Call
+whole r = opening ++ calls_of r
+
+-- the tape law of the pass net does not hold of the machine's calls
+abbrev pub Breaks : Machine → Run → Type 0
+Breaks m r = KeepsLaw pass m (begins r) (whole r) → ⊥
+
+-- All parts of the law hold of the machine's calls but the bound on recovers: nothing is dropped and no leaf is added; but at
+-- the first token 13 recovers are begun, and the pass net has 11 states.
+pub record OnlyTooMany (m : Machine) (r : Run) : Type 0 where
+  pub linked : Linked (place (begins r)) (journal_of m (whole r) (begins r))
+  pub ends_on :
+      (h : List Happened) (e : Happened) → Stands (journal_of m (whole r) (begins r)) h e → is_recover e ≡ true →
+      EndsOn pass h (begins r).shown (searched_from pass (begins r).shown h e) e.after
+  pub none_dropped : (run_of m (whole r) (begins r)).shown ≡ (begins r).shown
+  pub shown_is_left : (run_of m (whole r) (begins r)).shown ≡ shown_from (end_place (place (begins r)) (journal_of m (whole r) (begins r))) (begins r).shown
+  pub none_added : (run_of m (whole r) (begins r)).leaves ≡ (begins r).leaves
+  pub thirteen : recovers_at 0 (journal_of m (whole r) (begins r)) ≡ 13
+
+-- The step keeps the tape law on the runs, and none of those with a fault does on its own.
 pub record EachBreaks (w : WithinSets) : Type 0 where
-  pub sound : Keeps (step pass w) made faulty_calls
-  pub still : Breaks (stands_still w) made faulty_calls
-  pub once : Breaks (searches_once w) made faulty_calls
-  pub no_skip : Breaks (never_skips w) made faulty_calls
-  pub no_leaf : Breaks (adds_no_leaf w) made faulty_calls
-  pub blind : Breaks is_blind made faulty_calls
+  pub sound : (r : Run) → KeepsLaw pass (step pass w) (begins r) (whole r)
+  pub still : Breaks (stands_still w) Recovers
+  pub once : Breaks (searches_once w) Recovers
+  pub no_skip : Breaks (never_skips w) Recovers
+  pub one : Breaks (passes_one w) Recovers
+  pub no_leaf : Breaks (adds_no_leaf w) Recovers
+  pub blind : Breaks is_blind Recovers
+  pub only_answers : Breaks (answers_only w) Rounds
+  pub too_many : OnlyTooMany (answers_only w) Rounds
 
 -- whatever decides the within-rule sets of the pass net
 pub record Faulty : Type 0 where
-  pub new : New made
+  pub new : (r : Run) → New (begins r)
   pub each : (w : WithinSets) → Agree pass w → EachBreaks w

@@ -1,6 +1,7 @@
-pub mod Examples
 pub mod Beginnings
 pub mod Seen
+pub mod Examples
 pub mod Samples
-pub mod Machines
+pub mod ListNet
+pub mod ListRun
 pub mod Faulty

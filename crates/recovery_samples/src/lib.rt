@@ -1,5 +1,6 @@
-// Worked examples of the parser's repairs, in the pass net.
+// Worked examples of the parser's repairs, in the pass net and in the list net.
 #![tactic(auto)]
 
 pub mod faulty;
+pub mod list_run;
 pub mod sample;

@@ -1,6 +1,6 @@
-// The worked examples: the tape, where the parser stands before it, and the calls that it gets.
+// The worked examples in the pass net: the tape, the calls that open it, and the calls in question.
 ghost use Rattle.std.specs.Prelude.{◌≡◌};
-ghost use Rattle.recovery_samples.specs.Examples.{types_of, start_of, calls_of};
+ghost use Rattle.recovery_samples.specs.Examples.{types_of, opening_of, calls_of};
 ghost use Rattle.recovery_samples.specs.Samples.{Samples};
 
 use recovery_model::call::Call;
@@ -15,6 +15,8 @@ pub enum Sample {
     MissingLast,
     // no repair helps
     Mismatch,
+    // the same, and it is reported
+    MismatchReported,
     // no type that may follow is left
     ToTheEnd,
     // no rule called the open one, so no type may follow it
@@ -23,14 +25,6 @@ pub enum Sample {
     LoopEntry,
     // tokens do not fit on the way back of a loop
     LoopBack,
-}
-
-// The place of the first token shown, the parser's state, and the state that called its rule.
-#[derive(Clone, Copy, PartialEq, Eq, Debug)]
-pub struct Start {
-    pub place: u16,
-    pub state: u16,
-    pub invoking: Option<u16>,
 }
 
 impl Sample {
@@ -42,7 +36,7 @@ impl Sample {
             Sample::Extra => &[1, 1, 2, 3],
             Sample::Missing => &[1, 3],
             Sample::MissingLast => &[1, 2],
-            Sample::Mismatch => &[1, 1, 1, 2, 3],
+            Sample::Mismatch | Sample::MismatchReported => &[1, 1, 1, 2, 3],
             Sample::ToTheEnd => &[2, 2, 3],
             Sample::Outermost => &[1, 1],
             Sample::LoopEntry => &[2, 1, 2, 3],
@@ -50,25 +44,54 @@ impl Sample {
         }
     }
 
-    pub fn start(self) -> Start
-        ensures { result ≡ start_of self }
+    // The calls that bring a new parser to where the example begins.
+    pub fn opening(self) -> &'static [Call]
+        ensures { result.now ≡ opening_of self }
     {
-        let (place, state, invoking) = match self {
-            Sample::Extra | Sample::Missing | Sample::Mismatch => (1, 8, Some(2)),
-            Sample::MissingLast => (2, 9, Some(2)),
-            Sample::ToTheEnd => (0, 7, Some(2)),
-            Sample::Outermost => (0, 7, None),
-            Sample::LoopEntry => (0, 1, None),
-            Sample::LoopBack => (3, 3, None),
-        };
-        Start {
-            place,
-            state,
-            invoking,
+        match self {
+            Sample::Extra | Sample::Missing | Sample::Mismatch | Sample::MismatchReported => &[
+                Call::Enter { rule: 0 },
+                Call::State { state: 2 },
+                Call::Enter { rule: 1 },
+                Call::State { state: 7 },
+                Call::Match { token_type: 1 },
+                Call::State { state: 8 },
+            ],
+            Sample::MissingLast => &[
+                Call::Enter { rule: 0 },
+                Call::State { state: 2 },
+                Call::Enter { rule: 1 },
+                Call::State { state: 7 },
+                Call::Match { token_type: 1 },
+                Call::State { state: 8 },
+                Call::Match { token_type: 2 },
+                Call::State { state: 9 },
+            ],
+            Sample::ToTheEnd => &[
+                Call::Enter { rule: 0 },
+                Call::State { state: 2 },
+                Call::Enter { rule: 1 },
+                Call::State { state: 7 },
+            ],
+            Sample::Outermost => &[Call::Enter { rule: 1 }, Call::State { state: 7 }],
+            Sample::LoopEntry => &[Call::Enter { rule: 0 }, Call::State { state: 1 }],
+            Sample::LoopBack => &[
+                Call::Enter { rule: 0 },
+                Call::State { state: 2 },
+                Call::Enter { rule: 1 },
+                Call::State { state: 7 },
+                Call::Match { token_type: 1 },
+                Call::State { state: 8 },
+                Call::Match { token_type: 2 },
+                Call::State { state: 9 },
+                Call::Match { token_type: 3 },
+                Call::Leave,
+                Call::State { state: 3 },
+            ],
         }
     }
 
-    // The calls, one after the other. What they answer and do is known.
+    // The calls of the example, one after the other. Where it begins, and what they answer and do, is known.
     #[tactic(auto, using(crate::proofs::Repaired::samples))]
     pub fn calls(self) -> &'static [Call]
         ensures calls { result.now ≡ calls_of self }
@@ -78,7 +101,8 @@ impl Sample {
             Sample::Extra => &[Call::Match { token_type: 2 }, Call::Leave],
             Sample::Missing => &[Call::Match { token_type: 2 }],
             Sample::MissingLast => &[Call::Match { token_type: 3 }],
-            Sample::Mismatch => &[
+            Sample::Mismatch => &[Call::Match { token_type: 2 }, Call::Recover, Call::Recover],
+            Sample::MismatchReported => &[
                 Call::Match { token_type: 2 },
                 Call::Report { kind: 2 },
                 Call::Recover,

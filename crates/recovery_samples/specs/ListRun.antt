@@ -1,0 +1,105 @@
+-- A run in the list net, in which a pair is saved and a report kept back, call by call.
+use Rattle.std.specs.Prelude.{◌≡◌, ℕ, List, [], ◌∷◌, ◌++◌, map, pos, Option, Some, None}
+use Rattle.errors.specs.declared.denial.Denial.TheVariants.{WrongSearch}
+use Rattle.token.specs.declared.token_type.TokenType.TheVariants.{Of}
+use Rattle.records.specs.Leaves.{Said as Leaf}
+use Rattle.records.specs.declared.leaf.LeafKind.TheVariants.{Terminal}
+use Rattle.records.specs.declared.report.Report.{Report as Reported}
+use Rattle.records.specs.declared.report.ReportKind.TheVariants.{NoViableAlternative}
+use Rattle.recovery_model.specs.declared.call.Call.{Call}
+use Rattle.recovery_model.specs.declared.call.Call.TheVariants.{State, Enter, Leave, Match, Sync, Report}
+use Rattle.recovery_model.specs.declared.notes.Mode.{Mode}
+use Rattle.recovery_model.specs.declared.notes.Mode.TheVariants.{Settled, InRepair}
+use Rattle.recovery_model.specs.Calls.{Said, Done, Left, Token, Mismatch, Denied}
+use Rattle.recovery_model.specs.Sets.{WithinSets, Agree, no_types}
+use Rattle.recovery_model.specs.Views.{Pair}
+use Rattle.recovery_model.specs.Outcomes.{Outcome}
+use Rattle.recovery_model.specs.Steps.{step}
+use Rattle.recovery_model.specs.TapeLaw.{New}
+use Rattle.recovery_samples.specs.Beginnings.{token, made}
+use Rattle.recovery_samples.specs.Seen.{Seen, in_caller, report, seen, trace, types_told}
+use Rattle.recovery_samples.specs.ListNet.{list_net, ListNet}
+
+-- the types of the tape before EOF
+abbrev pub list_tape : List ℕ
+list_tape = 2 ∷ 1 ∷ 1 ∷ []
+
+-- what is seen of a call, and the pair that is saved after it
+pub record SeenSaved : Type 0 where
+  pub seen : Seen
+  pub saved : Option Pair
+
+abbrev pub seen_saved : Outcome → SeenSaved
+seen_saved o = record { seen = seen o; saved = o.view.noted.saved }
+
+-- a call, and what is seen of it
+pub record Line : Type 0 where
+  pub call : Call
+  pub shows : SeenSaved
+
+-- by the call, its answer, the leaves and the place after it, the reports that it gave, and the mode and the saved pair after it
+abbrev pub line : Call → Said → List Leaf → ℕ → List Reported → Mode → Option Pair → Line
+line call answer leaves place told mode saved =
+    record { call = call; shows = record { seen = record { answer = answer; leaves = leaves; place = place; told = told; mode = mode }; saved = saved } }
+
+-- the pair at the entry of the loop, in a rule that was called at state 1
+abbrev pub at_entry : Pair
+at_entry = record { state = 5; chain = 1 ∷ [] }
+
+-- the report of the 2, and its leaf
+abbrev pub two_reported : Reported
+two_reported = report NoViableAlternative (token (Of 2) 0) 0 (Of 0)
+
+abbrev pub two_taken : List Leaf
+two_taken = in_caller Terminal (token (Of 2) 0) ∷ []
+
+-- Rule 0 calls rule 1.
+abbrev pub calling_rule_1 : List Line
+calling_rule_1 =
+    line (Enter 0) Done [] 0 [] Settled None
+    ∷ line (State 1) Done [] 0 [] Settled None
+    ∷ line (Enter 1) Done [] 0 [] Settled None ∷ []
+
+-- Outside repair a sync where the 2 may not come is denied in state 6, where no choice is. In state 5 the rule may end, so the
+-- pair there is saved; and in state 7 too, but the pair that was saved before stays.
+abbrev pub saving : List Line
+saving =
+    line (State 6) Done [] 0 [] Settled None
+    ∷ line Sync (Denied WrongSearch) [] 0 [] Settled None
+    ∷ line (State 5) Done [] 0 [] Settled None
+    ∷ line Sync Done [] 0 [] Settled (Some at_entry)
+    ∷ line (State 7) Done [] 0 [] Settled (Some at_entry)
+    ∷ line Sync Done [] 0 [] Settled (Some at_entry) ∷ []
+
+-- A report begins repair, in which a second one is not given and a sync does nothing, in state 6 either.
+abbrev pub repairing : List Line
+repairing =
+    line (Report 1) Done [] 0 (two_reported ∷ []) InRepair (Some at_entry)
+    ∷ line (Report 3) Done [] 0 [] InRepair (Some at_entry)
+    ∷ line (State 6) Done [] 0 [] InRepair (Some at_entry)
+    ∷ line Sync Done [] 0 [] InRepair (Some at_entry) ∷ []
+
+-- Back in rule 0 the 2 is taken, which ends repair, but the pair stays saved. So a 1 that does not match in state 2 is kept with
+-- that pair, and not with the parser's own; and a sync in state 1, where the 1 may come, clears it.
+abbrev pub mismatching : List Line
+mismatching =
+    line Leave (Left 0) [] 0 [] InRepair (Some at_entry)
+    ∷ line (State 2) Done [] 0 [] InRepair (Some at_entry)
+    ∷ line (Match (pos 2)) (Token (token (Of 2) 0)) two_taken 1 [] Settled (Some at_entry)
+    ∷ line (Match (pos 2)) (Mismatch (record { token = token (Of 1) 1; state = 5; chain = 1 ∷ [] })) two_taken 1 [] Settled (Some at_entry)
+    ∷ line (State 1) Done two_taken 1 [] Settled (Some at_entry)
+    ∷ line Sync Done two_taken 1 [] Settled None ∷ []
+
+abbrev pub list_lines : List Line
+list_lines = calling_rule_1 ++ saving ++ repairing ++ mismatching
+
+-- the calls of a new parser, one after the other
+abbrev pub list_calls : List Call
+list_calls = map (λ l. l.call) list_lines
+
+-- Each call is seen as its line says, whatever decides the within-rule sets of the list net.
+pub record ListRun : Type 0 where
+  pub net : ListNet
+  pub new : New (made list_tape)
+  pub lines : (w : WithinSets) → Agree list_net w → trace seen_saved (step list_net w) list_calls (made list_tape) ≡ map (λ l. l.shows) list_lines
+  pub types : (w : WithinSets) → Agree list_net w → types_told (step list_net w) list_calls (made list_tape) ≡ no_types ∷ []
