@@ -22,8 +22,8 @@ use Rattle.recovery_samples.specs.declared.faulty.Run.TheVariants.{Recovers, Rou
 use Rattle.recovery_samples.specs.Beginnings.{made}
 
 -- the step, but for what an accepted call does
-abbrev pub but : (WithinSets → Call → View → Outcome) → WithinSets → Machine
-but does_so w c v = at (denial pass w c v)
+abbrev pub accepting : (WithinSets → Call → View → Outcome) → WithinSets → Machine
+accepting does_so w c v = at (denial pass w c v)
   where
     at : Option Denial → Outcome
     at None = does_so w c v
@@ -36,19 +36,19 @@ recovering does_so w c v = accepted pass w c v
 
 -- Recover notes its search, and passes nothing.
 abbrev pub stands_still : WithinSets → Machine
-stands_still = but (recovering (λ w v. does (searching v) Done))
+stands_still = accepting (recovering (λ w v. does (searching v) Done))
 
 -- Recover passes nothing where a search is noted since repair was last ended.
 abbrev pub searches_once : WithinSets → Machine
-searches_once = but (recovering (λ w v. if is_some v.noted.last then does (searching v) Done else recovers pass w v))
+searches_once = accepting (recovering (λ w v. if is_some v.noted.last then does (searching v) Done else recovers pass w v))
 
 -- The guard never skips a token.
 abbrev pub never_skips : WithinSets → Machine
-never_skips = but (recovering (λ w v. let u = searching v in does (pass_many Searched (search_length pass w u) u) Done))
+never_skips = accepting (recovering (λ w v. let u = searching v in does (pass_many Searched (search_length pass w u) u) Done))
 
--- A search passes at most one token.
+-- A search passes at most one of the tokens before the first that fits.
 abbrev pub passes_one : WithinSets → Machine
-passes_one = but (recovering (λ w v. let u = searching (unstuck v) in does (pass_many Searched (min (search_length pass w u) 1) u) Done))
+passes_one = accepting (recovering (λ w v. let u = searching (unstuck v) in does (pass_many Searched (min (search_length pass w u) 1) u) Done))
 
 -- No leaf is ever added.
 abbrev pub adds_no_leaf : WithinSets → Machine
@@ -65,7 +65,7 @@ matching does_so w c v = accepted pass w c v
 
 -- A match of the token first shown answers it and ends repair, and does not pass it.
 abbrev pub answers_only : WithinSets → Machine
-answers_only = but (matching (λ v. does (ended v) (Token (current v))))
+answers_only = accepting (matching (λ v. does (ended v) (Token (current v))))
 
 -- the types of the tape of a run before EOF
 abbrev pub types_of : Run → List ℕ
@@ -77,7 +77,7 @@ abbrev pub opening : List Call
 opening = Enter 0 ∷ State 2 ∷ Enter 1 ∷ State 7 ∷ []
 
 -- What comes then. Where a 2 comes, the first recover ends on the 1, as does the second; and the third skips it, so it ends on
--- EOF. Where a 1 comes, a recover ends on it and a match takes it; and that again, twelve times.
+-- EOF. Where a 1 comes, a recover ends on it, and a match asks for it; and this thirteen times.
 abbrev pub calls_of : Run → List Call
 calls_of Recovers = Recover ∷ Recover ∷ Recover ∷ []
 calls_of Rounds = flat_map (λ c. Recover ∷ c ∷ []) (replicate 13 (Match (pos 1)))
@@ -104,7 +104,7 @@ pub record OnlyTooMany (m : Machine) (r : Run) : Type 0 where
   pub none_added : (run_of m (whole r) (begins r)).leaves ≡ (begins r).leaves
   pub thirteen : recovers_at 0 (journal_of m (whole r) (begins r)) ≡ 13
 
--- The step keeps the tape law on the runs, and none of those with a fault does on its own.
+-- The step keeps the tape law on the runs, and each step with a fault breaks it on one of them.
 pub record EachBreaks (w : WithinSets) : Type 0 where
   pub sound : (r : Run) → KeepsLaw pass (step pass w) (begins r) (whole r)
   pub still : Breaks (stands_still w) Recovers

@@ -5,20 +5,21 @@ use Rattle.token.specs.declared.token_type.TokenType.TheVariants.{Of}
 use Rattle.records.specs.Leaves.{Said as Leaf}
 use Rattle.records.specs.declared.leaf.LeafKind.TheVariants.{Terminal}
 use Rattle.records.specs.declared.report.Report.{Report as Reported}
-use Rattle.records.specs.declared.report.ReportKind.TheVariants.{NoViableAlternative}
+use Rattle.records.specs.declared.report.ReportKind.TheVariants.{NoViableAlternative, InputMismatch}
 use Rattle.recovery_model.specs.declared.call.Call.{Call}
 use Rattle.recovery_model.specs.declared.call.Call.TheVariants.{State, Enter, Leave, Match, Sync, Report}
 use Rattle.recovery_model.specs.declared.notes.Mode.{Mode}
 use Rattle.recovery_model.specs.declared.notes.Mode.TheVariants.{Settled, InRepair}
-use Rattle.recovery_model.specs.Calls.{Said, Done, Left, Token, Mismatch, Denied}
+use Rattle.recovery_model.specs.Calls.{Said, Kept, Done, Left, Token, Mismatch, Denied}
 use Rattle.recovery_model.specs.Sets.{WithinSets, Agree, no_types}
 use Rattle.recovery_model.specs.Views.{Pair}
 use Rattle.recovery_model.specs.Outcomes.{Outcome}
 use Rattle.recovery_model.specs.Steps.{step}
+use Rattle.recovery_model.specs.Journals.{run}
 use Rattle.recovery_model.specs.TapeLaw.{New}
 use Rattle.recovery_samples.specs.Beginnings.{token, made}
 use Rattle.recovery_samples.specs.Seen.{Seen, in_caller, report, seen, trace, types_told}
-use Rattle.recovery_samples.specs.ListNet.{list_net, ListNet}
+use Rattle.recovery_samples.specs.ListNet.{list_net, one_or_two, ListNet}
 
 -- the types of the tape before EOF
 abbrev pub list_tape : List ℕ
@@ -53,6 +54,13 @@ two_reported = report NoViableAlternative (token (Of 2) 0) 0 (Of 0)
 abbrev pub two_taken : List Leaf
 two_taken = in_caller Terminal (token (Of 2) 0) ∷ []
 
+-- the 1 after it, which does not match, with the pair at the entry of the loop, and its report
+abbrev pub one_kept : Kept
+one_kept = record { token = token (Of 1) 1; state = 5; chain = 1 ∷ [] }
+
+abbrev pub one_reported : Reported
+one_reported = report InputMismatch (token (Of 1) 1) 2 (Of 1)
+
 -- Rule 0 calls rule 1.
 abbrev pub calling_rule_1 : List Line
 calling_rule_1 =
@@ -79,16 +87,18 @@ repairing =
     ∷ line (State 6) Done [] 0 [] InRepair (Some at_entry)
     ∷ line Sync Done [] 0 [] InRepair (Some at_entry) ∷ []
 
--- Back in rule 0 the 2 is taken, which ends repair, but the pair stays saved. So a 1 that does not match in state 2 is kept with
--- that pair, and not with the parser's own; and a sync in state 1, where the 1 may come, clears it.
+-- Back in rule 0 the 2 is taken, which ends repair, but the pair stays saved. So the 1, which does not match in state 2, is kept
+-- with that pair, and not with the parser's own. A sync in state 1, where the 1 may come, clears the saved pair. The report of
+-- the mismatch tells what was expected at the pair with which it is kept: a 1 or a 2.
 abbrev pub mismatching : List Line
 mismatching =
     line Leave (Left 0) [] 0 [] InRepair (Some at_entry)
     ∷ line (State 2) Done [] 0 [] InRepair (Some at_entry)
     ∷ line (Match (pos 2)) (Token (token (Of 2) 0)) two_taken 1 [] Settled (Some at_entry)
-    ∷ line (Match (pos 2)) (Mismatch (record { token = token (Of 1) 1; state = 5; chain = 1 ∷ [] })) two_taken 1 [] Settled (Some at_entry)
+    ∷ line (Match (pos 2)) (Mismatch one_kept) two_taken 1 [] Settled (Some at_entry)
     ∷ line (State 1) Done two_taken 1 [] Settled (Some at_entry)
-    ∷ line Sync Done two_taken 1 [] Settled None ∷ []
+    ∷ line Sync Done two_taken 1 [] Settled None
+    ∷ line (Report 2) Done two_taken 1 (one_reported ∷ []) InRepair None ∷ []
 
 abbrev pub list_lines : List Line
 list_lines = calling_rule_1 ++ saving ++ repairing ++ mismatching
@@ -97,9 +107,14 @@ list_lines = calling_rule_1 ++ saving ++ repairing ++ mismatching
 abbrev pub list_calls : List Call
 list_calls = map (λ l. l.call) list_lines
 
--- Each call is seen as its line says, whatever decides the within-rule sets of the list net.
+-- Each call is seen as its line says; and the types that are told.
+pub record AsSaid (w : WithinSets) : Type 0 where
+  pub lines : trace seen_saved (step list_net w) list_calls (made list_tape) ≡ map (λ l. l.shows) list_lines
+  pub kept : (run list_net w list_calls (made list_tape)).kept ≡ Some one_kept
+  pub types : types_told (step list_net w) list_calls (made list_tape) ≡ no_types ∷ one_or_two ∷ []
+
+-- The run is a new parser's, and goes so whatever decides the within-rule sets of the list net.
 pub record ListRun : Type 0 where
   pub net : ListNet
   pub new : New (made list_tape)
-  pub lines : (w : WithinSets) → Agree list_net w → trace seen_saved (step list_net w) list_calls (made list_tape) ≡ map (λ l. l.shows) list_lines
-  pub types : (w : WithinSets) → Agree list_net w → types_told (step list_net w) list_calls (made list_tape) ≡ no_types ∷ []
+  pub goes : (w : WithinSets) → Agree list_net w → AsSaid w

@@ -37,5 +37,6 @@ pub fn calls() -> &'static [Call]
         Call::Match { token_type: 2 },
         Call::State { state: 1 },
         Call::Sync,
+        Call::Report { kind: 2 },
     ]
 }
