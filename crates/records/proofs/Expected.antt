@@ -3,7 +3,6 @@ use lib.Signed.{le_z}
 use Rattle.std.proofs.Common.{◌≡◌, ℕ, zero, suc, ◌≤◌, ◌<◌, Bool, Fits, w16, subst, true, false, not, ◌&&◌, List, [], ◌∷◌, ℤ, pos, negsuc, ◌+ℤ◌, ◌≤ℤ◌, refl, sym, ap, ◌∙◌, inl, inr, arith}
 use Rattle.std.specs.Int.{FitsUnsignedBits}
 use mathlib.Core.Bool.{and-false}
-use mathlib.Core.Path.{fun_ext}
 use Rattle.std.proofs.lemmas.Int.{ints}
 use Rattle.std.proofs.lemmas.Bool.{cond-true, cond-false, cases_Bool, or_cases, true≢false, and_parts, and_from}
 use Rattle.interval_set.specs.declared.interval.Interval.{Interval}
@@ -71,9 +70,9 @@ is_eof s (negsuc (suc (suc n))) none h never = let low = lowest s (negsuc (suc (
 pub no_epsilon : (s : IntervalSet) → expects s smallest ≡ false
 no_epsilon s = and-false (holds s smallest)
 
-pub count_types : (s t : IntervalSet) (n : ℕ) → ((x : ℤ) → holds s x ≡ expects t x) → n ≡ how_many 258 (holds s) → n ≡ types_in (expects t)
+pub count_types : (s : IntervalSet) (n : ℕ) → n ≡ how_many 258 (holds s) → n ≡ types_in (holds s)
 unfolding types_in
-count_types s t n same e = e ∙ ap (how_many 258) (fun_ext same)
+count_types s n e = e
 
 pub few_types : (s : IntervalSet) (n : ℕ) → holds s smallest ≡ false → n ≡ how_many 258 (holds s) → n ≤ 257
 few_types s n none e = subst (λ k. k ≤ 257) (sym e) (all_but_first 257 (holds s) none)

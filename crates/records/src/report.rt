@@ -1,8 +1,8 @@
 // Reports of faults.
-ghost use Rattle.std.specs.Prelude.{◌≡◌, ◌≤◌, false, ℤ};
+ghost use Rattle.std.specs.Prelude.{◌≡◌, ◌≤◌, false};
 ghost use Rattle.interval_set.specs.Intervals.{smallest};
 ghost use Rattle.interval_set.specs.Members.{holds};
-ghost use Rattle.records.specs.Reports.{report_number, expects, report_at, smallest_type};
+ghost use Rattle.records.specs.Reports.{report_number, expects, report_at, smallest_type, types_in};
 
 use interval_set::set::IntervalSet;
 use token::token_type::TokenType;
@@ -39,13 +39,24 @@ pub struct Report {
 
 // The set without -2, which is the number of no type.
 fn types_of(expected: &IntervalSet) -> IntervalSet
-    ensures { (x : ℤ) → holds result x ≡ expects expected.now x }
+    ensures types { holds result ≡ expects expected.now }
+    ensures no_epsilon { holds result smallest ≡ false }
 {
     let mut types = *expected;
     types.remove_one(-2);
     types
 }
 
+// How many types the set holds.
+fn count_of(types: &IntervalSet) -> u16
+    requires { holds types.now smallest ≡ false }
+    ensures count { result ≡ types_in (holds types.now) }
+    ensures few { result ≤ 257 }
+{
+    types.length() as u16
+}
+
+// The smallest type of the set, or type 0.
 fn smallest_of(types: &IntervalSet) -> TokenType
     requires { holds types.now smallest ≡ false }
     ensures { result ≡ smallest_type (holds types.now) }
@@ -77,7 +88,7 @@ impl Report {
             index,
             line,
             column,
-            expected: types.length() as u16,
+            expected: count_of(&types),
             smallest: smallest_of(&types),
         }
     }

@@ -1,10 +1,13 @@
 // Examples of leaves, reports and what takes them.
 #![tactic(auto)]
 
+mod eof_watch;
 #[cfg(test)]
 mod leaves;
 #[cfg(test)]
 mod lines;
+#[cfg(test)]
+mod listeners;
 #[cfg(test)]
 mod made;
 mod owners;

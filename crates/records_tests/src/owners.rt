@@ -1,9 +1,11 @@
 // What the owner of a lent table knows once code that is generic has written to it.
-ghost use Rattle.std.specs.Prelude.{◌≡◌, ◌<◌, ◌≤◌, [], ◌∷◌, ◌++◌, drop, length};
+ghost use Rattle.std.specs.Prelude.{◌≡◌, ◌<◌, ◌≤◌, [], ◌∷◌, ◌++◌, drop, length, None, ◌||◌, negsuc};
 ghost use Rattle.records.specs.Adding.{Grown};
 ghost use Rattle.records.specs.LeafLines.{leaf_line};
-ghost use Rattle.records.specs.Heard.{hears};
+ghost use Rattle.records.specs.Heard.{Told, Hears, told_at};
+ghost use Rattle.records.specs.Reports.{expects};
 
+use crate::eof_watch::EofWatch;
 use interval_set::set::IntervalSet;
 use records::bounded_list::BoundedList;
 use records::counter::Counter;
@@ -11,9 +13,9 @@ use records::leaf::Leaf;
 use records::leaf_list::LeafList;
 use records::leaf_table::LeafTable;
 use records::leaf_writer::LeafWriter;
-use records::listener::Listener;
+use records::listener::{Listener, notify_error_listeners};
 use records::recorder::Recorder;
-use records::report::Report;
+use records::report::{Report, ReportKind};
 
 pub(crate) fn add_two<L: LeafList>(l: &mut L, a: Leaf, b: Leaf)
     ensures same_memory { L.lent l.new ≡ L.lent l.old }
@@ -41,7 +43,7 @@ pub(crate) fn write_two(table: &mut [u8], a: Leaf, b: Leaf)
 
 pub(crate) fn report_two<L: Listener>(l: &mut L, a: Report, b: Report, expected: &IntervalSet)
     ensures same_memory { L.lent l.new ≡ L.lent l.old }
-    ensures two { L.heard l.new ≡ hears b (hears a (L.heard l.old)) }
+    ensures two { let told : Report → Told = λ r. record { report = r; types = expects expected.now } in Hears L.heard L.kept L.keeps (told a ∷ told b ∷ []) l.old l.new }
 {
     l.report(a, expected);
     l.report(b, expected);
@@ -61,4 +63,22 @@ pub(crate) fn count_two(a: Report, b: Report, expected: &IntervalSet) -> u32
     let mut c = Counter::new();
     report_two(&mut c, a, b, expected);
     c.heard()
+}
+
+// Two faults, at which these types were expected.
+pub(crate) fn notify_two<L: Listener>(l: &mut L, first: &IntervalSet, second: &IntervalSet)
+    ensures same_memory { L.lent l.new ≡ L.lent l.old }
+    ensures two { let told : IntervalSet → Told = λ s. told_at ReportKind.InputMismatch None (1, 0) (expects s) in Hears L.heard L.kept L.keeps (told first.now ∷ told second.now ∷ []) l.old l.new }
+{
+    notify_error_listeners(l, ReportKind::InputMismatch, None, (1, 0), first);
+    notify_error_listeners(l, ReportKind::InputMismatch, None, (1, 0), second);
+}
+
+// Whether EOF was expected at either fault, by a listener that keeps that.
+pub(crate) fn eof_at_either(first: &IntervalSet, second: &IntervalSet) -> bool
+    ensures { result ≡ (expects first.now (negsuc 0) || expects second.now (negsuc 0)) }
+{
+    let mut w = EofWatch::new();
+    notify_two(&mut w, first, second);
+    w.eof()
 }
