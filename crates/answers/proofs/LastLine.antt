@@ -7,7 +7,7 @@ use Rattle.std.proofs.lemmas.Grind.{flat_map-append}
 use Rattle.records.specs.declared.leaf_writer.LeafWriter.{LeafWriter}
 use Rattle.errors.specs.declared.denial.Denial.{Denial}
 use Rattle.errors.specs.declared.denial.Denial.TheVariants.{NoLeafFree}
-use Rattle.records.specs.Leaves.{Said, LeafFits}
+use Rattle.records.specs.Leaves.{LeafFields, LeafFits}
 use Rattle.records.specs.LeafLines.{leaf_line}
 use Rattle.records.specs.Lengths.{length_line}
 use Rattle.records.specs.Writers.{leaves_written}
@@ -16,7 +16,7 @@ leaves_fit : (w : LeafWriter) → All LeafFits (leaves_written w)
 unfolding leaves_written
 leaves_fit w = w.written.fit
 
-module _ (w : LeafWriter) (old : List Said) (l : Said) (is : leaves_written w ≡ old ++ l ∷ []) where
+module _ (w : LeafWriter) (old : List LeafFields) (l : LeafFields) (is : leaves_written w ≡ old ++ l ∷ []) where
   abbrev text : List ℕ
   text = flat_map leaf_line (leaves_written w)
 

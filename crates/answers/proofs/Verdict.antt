@@ -9,10 +9,10 @@ use Rattle.token.specs.declared.token_type.Span.{Span}
 use Rattle.token.specs.declared.kinds.CommonToken.{CommonToken}
 use Rattle.token.specs.Kinds.{common_fields}
 use Rattle.token.specs.Tokens.{Fields}
-use Rattle.token_stream.specs.Tapes.{Sound, TapeFault}
+use Rattle.token_stream.specs.Tapes.{IsTape, TapeFault}
 use Rattle.script.specs.declared.script_line.Show.{Show}
 use Rattle.script.specs.declared.token_row.TokenRow.{TokenRow}
-use Rattle.script.specs.TokenRows.{Writes}
+use Rattle.script.specs.TokenRows.{WritesTape}
 use Rattle.answers.specs.declared.shown.ShownToken.{ShownToken}
 use Rattle.answers.specs.Tapes.{Numbered, RowsFault, RowsAnswered, token_fields, shown_by}
 use Rattle.answers.proofs.Written.{same_tape}
@@ -26,7 +26,7 @@ module _ (e : Denial) (P : Type 0) where
   only_accepts x n = accepts (λ d. (d ≡ e) × P) x (λ d h. n h.1)
 
 -- only that it is no tape speaks against tokens
-pub only_tape : (tape : List Fields) (d : Denial) → TapeFault tape d → (d ≡ FaultyTape) × (Sound tape → ⊥)
+pub only_tape : (tape : List Fields) (d : Denial) → TapeFault tape d → (d ≡ FaultyTape) × (IsTape tape → ⊥)
 only_tape tape ShortTable h = absurd h
 only_tape tape OutsideLimits h = absurd h
 only_tape tape BrokenRule h = absurd h
@@ -43,11 +43,11 @@ only_tape tape WrongReport h = absurd h
 only_tape tape SetValue h = absurd h
 
 -- what is answered about the tokens that the rows write is the answer about the rows
-module _ {S : Type 0} (kept : S → Option Span) (rows : List (TokenRow S)) (show : Show) (ts : List Fields) (written : Writes kept rows ts) (numbered : Numbered ts) where
-  no_tape : (Sound ts → ⊥) → (us : List Fields) → Writes kept rows us → Sound us → ⊥
-  no_tape n us w sound = n (subst Sound (sym (same_tape kept rows ts us written w numbered sound)) sound)
+module _ {S : Type 0} (kept : S → Option Span) (rows : List (TokenRow S)) (show : Show) (ts : List Fields) (written : WritesTape kept rows ts) (numbered : Numbered ts) where
+  no_tape : (IsTape ts → ⊥) → (us : List Fields) → WritesTape kept rows us → IsTape us → ⊥
+  no_tape n us w sound = n (subst IsTape (sym (same_tape kept rows ts us written w numbered sound)) sound)
 
-  rows_answered : (r : Result (Vec ShownToken) Denial) → DeniesFirst (TapeFault ts) r → IfOk r (λ _. Sound ts) → IfOk r (λ v. map token_fields v.items ≡ shown_by show ts) → RowsAnswered kept rows show r
+  rows_answered : (r : Result (Vec ShownToken) Denial) → DeniesFirst (TapeFault ts) r → IfOk r (λ _. IsTape ts) → IfOk r (λ v. map token_fields v.items ≡ shown_by show ts) → RowsAnswered kept rows show r
   rows_answered (Ok v) d sound shown = (
     only_accepts FaultyTape _ v (λ none. none ts written sound),
     record { tape = ts; written = written; sound = sound; shown = shown },
@@ -61,6 +61,6 @@ module _ {S : Type 0} (kept : S → Option Span) (rows : List (TokenRow S)) (sho
   abbrev ts : List Fields
   ts = map (common_fields kept) checked
 
-  pub all_answered : {E : Type 0} (r : Result (Result (Vec ShownToken) Denial) E) → Writes kept rows (map (common_fields kept) items) → Numbered (map (common_fields kept) items) → IfOk r (DeniesFirst (TapeFault ts)) → IfOk r (λ o. IfOk o (λ _. Sound ts)) → IfOk r (λ o. IfOk o (λ v. map token_fields v.items ≡ shown_by show ts)) → IfOk r (RowsAnswered kept rows show)
-  all_answered (Ok o) written numbered d sound shown = rows_answered kept rows show ts (subst (λ xs. Writes kept rows (map (common_fields kept) xs)) (sym same) written) (subst (λ xs. Numbered (map (common_fields kept) xs)) (sym same) numbered) o d sound shown
+  pub all_answered : {E : Type 0} (r : Result (Result (Vec ShownToken) Denial) E) → WritesTape kept rows (map (common_fields kept) items) → Numbered (map (common_fields kept) items) → IfOk r (DeniesFirst (TapeFault ts)) → IfOk r (λ o. IfOk o (λ _. IsTape ts)) → IfOk r (λ o. IfOk o (λ v. map token_fields v.items ≡ shown_by show ts)) → IfOk r (RowsAnswered kept rows show)
+  all_answered (Ok o) written numbered d sound shown = rows_answered kept rows show ts (subst (λ xs. WritesTape kept rows (map (common_fields kept) xs)) (sym same) written) (subst (λ xs. Numbered (map (common_fields kept) xs)) (sym same) numbered) o d sound shown
   all_answered (Err e) written numbered d sound shown = tt

@@ -9,9 +9,9 @@ use Rattle.token.specs.declared.token_type.Span.{Span}
 use Rattle.token.specs.declared.token_type.TokenType.{TokenType}
 use Rattle.token.specs.declared.token_type.TokenType.TheVariants.{Eof, Of}
 use Rattle.token.specs.Tokens.{Fields, type_number}
-use Rattle.token_stream.specs.Tapes.{no_token, token_at, Sound}
+use Rattle.token_stream.specs.Tapes.{no_token, token_at, IsTape}
 use Rattle.script.specs.declared.token_row.TokenRow.{TokenRow}
-use Rattle.script.specs.TokenRows.{WritesToken, Writes}
+use Rattle.script.specs.TokenRows.{WritesToken, WritesTape}
 use Rattle.answers.specs.Tapes.{Numbered}
 
 pub zip_at : {A B : Type 0} (R : A → B → Type 0) (xs : List A) (ys : List B) (i : ℕ) (x : A) (y : B) → AllZip R xs ys → i < length xs → R (get_or xs i x) (get_or ys i y)
@@ -29,7 +29,7 @@ same_type (Of n) (Of m) e = ap Of (omega (arith, ints, e))
 same_number : (m n : ℕ) → pos m ≡ pos n → m ≡ n
 same_number m n e = omega (arith, ints, e)
 
--- but for its own index, a row writes one token
+-- but for its token index, a row writes one token
 same_token : {S : Type 0} (kept : S → Option Span) (row : TokenRow S) (t u : Fields) → WritesToken kept row t → WritesToken kept row u → t.index ≡ u.index → t ≡ u
 same_token kept row t u v w e =
     let typ = same_type t.typ u.typ (v.typ ∙ sym w.typ) in
@@ -39,7 +39,7 @@ same_token kept row t u v w e =
     let span = v.span ∙ sym w.span in
     λ i. record { typ = typ i; channel = channel i; index = e i; position = (line i, column i); span = span i }
 
-same_tokens : {S : Type 0} (kept : S → Option Span) (rows : List (TokenRow S)) (ts us : List Fields) → Writes kept rows ts → Writes kept rows us → ((k : ℕ) → k < length ts → (token_at ts k).index ≡ (token_at us k).index) → ts ≡ us
+same_tokens : {S : Type 0} (kept : S → Option Span) (rows : List (TokenRow S)) (ts us : List Fields) → WritesTape kept rows ts → WritesTape kept rows us → ((k : ℕ) → k < length ts → (token_at ts k).index ≡ (token_at us k).index) → ts ≡ us
 same_tokens kept [] [] [] v w e = refl
 same_tokens kept [] [] (u ∷ us) v w e = absurd w
 same_tokens kept [] (t ∷ ts) us v w e = absurd v
@@ -50,13 +50,13 @@ same_tokens kept (row ∷ rows) (t ∷ ts) (u ∷ us) v w e =
     let tail = same_tokens kept rows ts us v.1 w.1 (λ k l. e (suc k) (omega (arith, l))) in
     λ i. head i ∷ tail i
 
-pub same_tape : {S : Type 0} (kept : S → Option Span) (rows : List (TokenRow S)) (ts us : List Fields) → Writes kept rows ts → Writes kept rows us → Numbered ts → Sound us → ts ≡ us
+pub same_tape : {S : Type 0} (kept : S → Option Span) (rows : List (TokenRow S)) (ts us : List Fields) → WritesTape kept rows ts → WritesTape kept rows us → Numbered ts → IsTape us → ts ≡ us
 same_tape kept rows ts us v w numbered sound =
     let long : length ts ≡ length rows = AllZip-long (WritesToken kept) rows ts v in
     let same : length us ≡ length rows = AllZip-long (WritesToken kept) rows us w in
     same_tokens kept rows ts us v w (λ k l. numbered k l ∙ sym (sound.placed k (omega (arith, l, long, same))).index)
 
--- one more token, with its place as its own index
+-- one more token, with its place as its token index
 pub numbered_push : (ts : List Fields) (t : Fields) → Numbered ts → t.index ≡ Some (length ts) → Numbered (ts ++ t ∷ [])
 numbered_push ts t numbered is k l =
     elim (cases_lt k (length ts)) [

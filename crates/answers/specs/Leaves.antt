@@ -2,7 +2,7 @@
 use Rattle.std.specs.Prelude.{◌≡◌, ◌<◌, ℕ, length, Ok, Err, Result}
 use Rattle.errors.specs.declared.denial.Denial.{Denial}
 use Rattle.errors.specs.declared.denial.Denial.TheVariants.{NoLeafFree}
-use Rattle.records.specs.Leaves.{Said}
+use Rattle.records.specs.Leaves.{LeafFields}
 use Rattle.records.specs.LeafLines.{leaf_line}
 use Rattle.records.specs.Lists.{behind}
 use Rattle.answers.specs.declared.leaf_lists.LeafLists.{LeafLists}
@@ -13,6 +13,6 @@ abbrev pub room : LeafLists → ℕ
 room l = length (behind l.table)
 
 -- While there is room, the leaf is answered, and its line; else it is denied.
-abbrev pub LeafAnswer : ℕ → Said → Result AddedLeaf Denial → Type 0
+abbrev pub LeafAnswer : ℕ → LeafFields → Result AddedLeaf Denial → Type 0
 LeafAnswer free l (Ok a) = (0 < free) × (a.leaf ≡ l) × (a.line.items ≡ leaf_line l)
 LeafAnswer free l (Err d) = (free ≡ 0) × (d ≡ NoLeafFree)

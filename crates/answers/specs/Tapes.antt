@@ -7,7 +7,7 @@ use Rattle.errors.specs.declared.denial.Denial.{Denial}
 use Rattle.errors.specs.declared.denial.Denial.TheVariants.{FaultyTape}
 use Rattle.token.specs.declared.token_type.Span.{Span}
 use Rattle.token.specs.Tokens.{Fields}
-use Rattle.token_stream.specs.Tapes.{Sound, token_at}
+use Rattle.token_stream.specs.Tapes.{IsTape, token_at}
 use Rattle.token_stream.specs.Streams.{filtered}
 use Rattle.script.specs.declared.question.Ask.{Ask}
 use Rattle.script.specs.declared.question.Ask.TheVariants.{Tokens}
@@ -16,7 +16,7 @@ use Rattle.script.specs.declared.script_line.Show.TheVariants.{All, Channel0}
 use Rattle.script.specs.declared.token_row.TokenRow.{TokenRow}
 use Rattle.script.specs.Asking.{Asking}
 use Rattle.script.specs.Contents.{Content}
-use Rattle.script.specs.TokenRows.{Writes}
+use Rattle.script.specs.TokenRows.{WritesTape}
 use Rattle.answers.specs.declared.shown.ShownToken.{ShownToken}
 
 -- what a token that is printed says of itself
@@ -28,19 +28,19 @@ abbrev pub shown_by : Show → List Fields → List Fields
 shown_by All tape = tape
 shown_by Channel0 tape = filtered tape
 
--- each token's own index is its place
+-- each token's token index is its place
 abbrev pub Numbered : List Fields → Type 0
 Numbered ts = (k : ℕ) → k < length ts → (token_at ts k).index ≡ Some k
 
 -- The rows are denied if they write no tape.
 abbrev pub RowsFault : {S : Type 0} → (S → Option Span) → List (TokenRow S) → Denial → Type 0
-RowsFault kept rows d = (d ≡ FaultyTape) × ((tape : List Fields) → Writes kept rows tape → Sound tape → ⊥)
+RowsFault kept rows d = (d ≡ FaultyTape) × ((tape : List Fields) → WritesTape kept rows tape → IsTape tape → ⊥)
 
 -- The tokens are those shown of the tape that the rows write.
 pub record ShowsRows {S : Type 0} (kept : S → Option Span) (rows : List (TokenRow S)) (show : Show) (tokens : List ShownToken) : Type 0 where
   pub tape : List Fields
-  pub written : Writes kept rows tape
-  pub sound : Sound tape
+  pub written : WritesTape kept rows tape
+  pub sound : IsTape tape
   pub shown : map token_fields tokens ≡ shown_by show tape
 
 abbrev pub RowsAnswered : {S : Type 0} → (S → Option Span) → List (TokenRow S) → Show → Result (Vec ShownToken) Denial → Type 0

@@ -1,7 +1,7 @@
 // Questions about a net, over any lookahead, and about what is shown of a tape.
 ghost use Rattle.std.specs.Prelude.{◌≡◌, IfOk, OnOk};
 ghost use Rattle.atn.specs.Checked.{net_of};
-ghost use Rattle.ll1_analyzer.specs.Answers.{Keeps};
+ghost use Rattle.ll1_analyzer.specs.Answers.{KeepsNet};
 ghost use Rattle.answers.specs.Asking.{Answer, EachAnswered, room_after, room_left};
 ghost use Rattle.answers.specs.Leaves.{room};
 
@@ -38,7 +38,7 @@ fn answer_one<L: Lookahead>(
     shown: &[ShownToken],
     ask: &Ask,
 ) -> Result<Reply, AllocError>
-    ensures keeps { Keeps L.atn L.agrees l.old l.new }
+    ensures keeps { KeepsNet L.atn L.agrees l.old l.new }
     ensures answers { L.agrees l.old → IfOk result (Answer (net_of (L.atn l.old)) shown.now (room lists.old) ask.now) }
     ensures room { OnOk result (room lists.new ≡ room_after ask.now (room lists.old)) }
 {

@@ -1,6 +1,6 @@
 // What a stream shows, as a list.
 ghost use Rattle.std.specs.Prelude.{◌≡◌, IfOk, map};
-ghost use Rattle.token_stream.specs.Streams.{Keeps};
+ghost use Rattle.token_stream.specs.Streams.{KeepsNet};
 ghost use Rattle.answers.specs.Tapes.{token_fields};
 
 use std::alloc::{AllocError, Global};
@@ -33,7 +33,7 @@ impl ShownToken {
     }
 }
 
-// Its own index, and its row as a script gives it.
+// Its token index, and its row as a script gives it.
 impl fmt::Display for ShownToken {
     fn fmt<W: fmt::Write>(&self, f: &mut fmt::Formatter<W>) -> fmt::Result {
         let index = self.index.map_or(-1, i32::from);
@@ -59,7 +59,7 @@ pub(crate) fn list_shown<'a, S: TokenStream<'a>>(
     heap: Global,
     stream: &mut S,
 ) -> Result<Vec<ShownToken>, AllocError>
-    ensures keeps { Keeps S.tape S.shown stream.old stream.new }
+    ensures keeps { KeepsNet S.tape S.shown stream.old stream.new }
     ensures shown { IfOk result (λ v. map token_fields v.items ≡ S.shown stream.old) }
 {
     let mut tokens = Vec::new(heap);

@@ -3,10 +3,10 @@ ghost use Rattle.std.specs.Prelude.{◌≡◌, IfOk, IfNone, IfSome, None, Some,
 ghost use Rattle.std.specs.List.{list_any};
 ghost use Rattle.token.specs.Kinds.{common_fields};
 ghost use Rattle.errors.specs.Denials.{DeniesFirst};
-ghost use Rattle.token_stream.specs.Tapes.{Sound, TapeFault};
+ghost use Rattle.token_stream.specs.Tapes.{IsTape, TapeFault};
 ghost use Rattle.script.specs.Asking.{asking};
 ghost use Rattle.script.specs.Contents.{content};
-ghost use Rattle.script.specs.TokenRows.{Writes};
+ghost use Rattle.script.specs.TokenRows.{WritesTape};
 ghost use Rattle.answers.specs.Tapes.{Numbered, RowsAnswered, RowsFault, TapeSaid, asks_tokens, has_rows, needs_tape, shown_by, token_fields};
 ghost use Rattle.errors.specs.declared.denial.Denial.TheVariants.{FaultyTape};
 
@@ -22,13 +22,13 @@ use token::token::{Token, TokenFactory};
 use token_stream::filter::Filter;
 use token_stream::table::TokenTable;
 
-// The tokens that the rows write, each with its place as its own index; None if they write no tape.
+// The tokens that the rows write, each with its place as its token index; None if they write no tape.
 fn tokens_of<S: KeptSpan + Copy>(
     heap: Global,
     rows: &[TokenRow<S>],
 ) -> Result<Option<Vec<CommonToken<S>>>, AllocError>
     ensures none { IfOk result (λ o. IfNone o (RowsFault S.kept rows.now FaultyTape)) }
-    ensures written { IfOk result (λ o. IfSome o (λ v. Writes S.kept rows.now (map (common_fields S.kept) v.items))) }
+    ensures written { IfOk result (λ o. IfSome o (λ v. WritesTape S.kept rows.now (map (common_fields S.kept) v.items))) }
     ensures numbered { IfOk result (λ o. IfSome o (λ v. Numbered (map (common_fields S.kept) v.items))) }
 {
     let mut tokens = Vec::new(heap);
@@ -52,7 +52,7 @@ fn answer_tokens<T: Token + Drop, F: TokenFactory<Tok = T> + Drop>(
     show: Show,
 ) -> Result<Result<Vec<ShownToken>, Denial>, AllocError>
     ensures verdict { IfOk result (DeniesFirst (TapeFault (map T.fields tokens.now))) }
-    ensures tape { IfOk result (λ r. IfOk r (λ _. Sound (map T.fields tokens.now))) }
+    ensures tape { IfOk result (λ r. IfOk r (λ _. IsTape (map T.fields tokens.now))) }
     ensures shown { IfOk result (λ r. IfOk r (λ v. map token_fields v.items ≡ shown_by show (map T.fields tokens.now))) }
 {
     let mut table = match TokenTable::check(tokens, factory) {

@@ -1,38 +1,38 @@
--- A walk never looks below the top of its pile, so it is a way through the steps.
+-- A walk never looks below the top of its stack, so it is a way through the steps.
 use Rattle.std.proofs.Common.{ℕ, ◌⊎◌, List, [], ◌∷◌, inl, inr}
 use Rattle.atn_graph.specs.Net.{Net}
 use Rattle.atn.specs.Walks.{Walk}
-use Rattle.atn.specs.Reach.{Null, StepOver, Reaches, ReachesOver}
+use Rattle.atn.specs.Reach.{Nullable, StepOver, Reaches, ReachesOver}
 
--- k is reached from s, or from a state of the pile with all above it null
+-- k is reached from s, or from a state of the stack with all above it nullable
 abbrev pub Visited : Net → ℕ → List ℕ → ℕ → Type 0
 Visited n s [] k = Reaches n s k
-Visited n s (f ∷ p) k = Reaches n s k ⊎ (Null n s × Visited n f p k)
+Visited n s (f ∷ p) k = Reaches n s k ⊎ (Nullable n s × Visited n f p k)
 
 visited_here : {n : Net} {s k : ℕ} (p : List ℕ) → Reaches n s k → Visited n s p k
 visited_here [] r = r
 visited_here (f ∷ p) r = inl r
 
-visited_by : {n : Net} {s t : ℕ} (k : ℕ) (p : List ℕ) → StepOver (Null n) n s t → (Null n t → Null n s) → Visited n t p k → Visited n s p k
+visited_by : {n : Net} {s t : ℕ} (k : ℕ) (p : List ℕ) → StepOver (Nullable n) n s t → (Nullable n t → Nullable n s) → Visited n t p k → Visited n s p k
 visited_by k [] e up v = ReachesOver.more e v
 visited_by k (f ∷ p) e up (inl r) = inl (ReachesOver.more e r)
 visited_by k (f ∷ p) e up (inr v) = inr (up v.0, v.1)
 
 pub visited_of_walk : {n : Net} {s k : ℕ} {p q : List ℕ} → Walk n s p k q → Visited n s p k
 visited_of_walk {p = p} Walk.here = visited_here p ReachesOver.here
-visited_of_walk {k = k} {p = p} (Walk.along e w) = visited_by k p (StepOver.along e) (Null.along e) (visited_of_walk w)
+visited_of_walk {k = k} {p = p} (Walk.along e w) = visited_by k p (StepOver.along e) (Nullable.along e) (visited_of_walk w)
 visited_of_walk {n} {s} {k} {p} (Walk.call {t} {f} e w) = through (visited_of_walk w)
   where
     through : Visited n t (f ∷ p) k → Visited n s p k
     through (inl r) = visited_here p (ReachesOver.more (StepOver.into e) r)
-    through (inr v) = visited_by k p (StepOver.over e v.0) (Null.over e v.0) v.1
-visited_of_walk (Walk.back e w) = inr (Null.stops e, visited_of_walk w)
+    through (inr v) = visited_by k p (StepOver.over e v.0) (Nullable.over e v.0) v.1
+visited_of_walk (Walk.back e w) = inr (Nullable.stops e, visited_of_walk w)
 
--- and the ways through the steps are walks, on any pile
-pub walk_over : {n : Net} {s f k : ℕ} {p q : List ℕ} → Null n s → Walk n f p k q → Walk n s (f ∷ p) k q
-walk_over (Null.stops e) w = Walk.back e w
-walk_over (Null.along e u) w = Walk.along e (walk_over u w)
-walk_over (Null.over e u v) w = Walk.call e (walk_over u (walk_over v w))
+-- and the ways through the steps are walks, on any stack
+pub walk_over : {n : Net} {s f k : ℕ} {p q : List ℕ} → Nullable n s → Walk n f p k q → Walk n s (f ∷ p) k q
+walk_over (Nullable.stops e) w = Walk.back e w
+walk_over (Nullable.along e u) w = Walk.along e (walk_over u w)
+walk_over (Nullable.over e u v) w = Walk.call e (walk_over u (walk_over v w))
 
 pub walk_of_reaches : {n : Net} {s k : ℕ} → Reaches n s k → (p : List ℕ) → (q : List ℕ) × Walk n s p k q
 walk_of_reaches ReachesOver.here p = (p, Walk.here)

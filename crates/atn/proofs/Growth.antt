@@ -4,7 +4,7 @@ use mathlib.Core.Bool.{or-false, or_assoc}
 use Rattle.std.proofs.lemmas.List.{get_or_append_left, length_push}
 use Rattle.std.proofs.lemmas.Bool.{or_cases, or_left, or_right, eq-eqb, eqb-true, both_ways, cases_Bool, cond-true, cond-false}
 use Rattle.atn.specs.Marks.{elem, Grown}
-use Rattle.atn.specs.Found.{noted}
+use Rattle.atn.specs.Found.{with_state}
 
 -- one more at the end
 pub elem_push : (k x : ℕ) (xs : List ℕ) → elem k (xs ++ x ∷ []) ≡ (elem k xs || eqb k x)
@@ -61,8 +61,8 @@ grown_both {P} {Q} {a} {b} {c} g h = record {
     only k (inl m) = first k (g.only k m)
     only k (inr q) = inr (inr q)
 
-pub grown_noted : (x : ℕ) (xs : List ℕ) → Grown (λ k. x ≡ k) xs (noted x xs)
-grown_noted x xs = at (cases_Bool (elem x xs))
+pub grown_with : (x : ℕ) (xs : List ℕ) → Grown (λ k. x ≡ k) xs (with_state x xs)
+grown_with x xs = at (cases_Bool (elem x xs))
   where
     pushed : elem x xs ≡ false → Grown (λ k. x ≡ k) xs (xs ++ x ∷ [])
     pushed e = record {
@@ -73,6 +73,6 @@ grown_noted x xs = at (cases_Bool (elem x xs))
       only = λ k h. elim (or_cases (elem k xs) (eqb k x) (sym (elem_push k x xs) ∙ h)) [ inl m ↦ inl m | inr m ↦ inr (sym (eqb-true k x m)) ];
     }
 
-    at : (elem x xs ≡ true) ⊎ (elem x xs ≡ false) → Grown (λ k. x ≡ k) xs (noted x xs)
+    at : (elem x xs ≡ true) ⊎ (elem x xs ≡ false) → Grown (λ k. x ≡ k) xs (with_state x xs)
     at (inl e) = subst (Grown (λ k. x ≡ k) xs) (sym (cond-true (elem x xs) xs (xs ++ x ∷ []) e)) (grown_none xs (λ k h. subst (λ y. elem y xs ≡ true) h e))
     at (inr e) = subst (Grown (λ k. x ≡ k) xs) (sym (cond-false (elem x xs) xs (xs ++ x ∷ []) e)) (pushed e)

@@ -1,4 +1,4 @@
--- Passes that add null states, until one adds nothing.
+-- Passes that add nullable states, until one adds nothing.
 use Rattle.std.proofs.Common.{◌≡◌, ℕ, ◌+◌, ◌<◌, ◌≤◌, true, false, ◌⊎◌, List, [], ◌∷◌, ◌++◌, length, sym, refl, ap, ◌∙◌, subst, inl, inr, arith}
 use Rattle.std.proofs.lemmas.List.{get_or_past, length_push}
 use Rattle.std.proofs.lemmas.Bool.{cases_Bool, cases_eq, cases_lt, and_parts, and_from, both_ways, cond-true, cond-false}
@@ -8,10 +8,10 @@ use Rattle.atn_graph.specs.Kinds.{move_of, is_stop}
 use Rattle.atn_graph.specs.Net.{Net, size, no_state, edge_at}
 use Rattle.atn.specs.Walks.{HasEdge}
 use Rattle.atn.specs.Marks.{elem}
-use Rattle.atn.specs.Found.{noted}
-use Rattle.atn.specs.Reach.{Null, KnowsNull}
-use Rattle.atn.specs.Passes.{over_by, Falls, AllNull, Pass}
-use Rattle.atn.proofs.Growth.{grown_noted}
+use Rattle.atn.specs.Found.{with_state}
+use Rattle.atn.specs.Reach.{Nullable, KnowsNullable}
+use Rattle.atn.specs.Passes.{over_by, Falls, AllNullable, Pass}
+use Rattle.atn.proofs.Growth.{grown_with}
 use Rattle.atn.proofs.Some.{no_edges}
 
 -- a state that adds nothing
@@ -22,28 +22,28 @@ pass_skip n s a b p d = record { right = p.right; longer = p.longer; same = p.sa
     at e i l f (inl is) = subst (λ x. elem x a ≡ true) (sym is) (subst (λ ys. Falls n ys s → elem s ys ≡ true) (p.same e) d (subst (Falls n a) is f))
     at e i l f (inr ne) = p.done e i (omega arith) f
 
--- states of a list of null states lead to null states
-null_of_falls : (n : Net) (xs : List ℕ) (s : ℕ) → AllNull n xs → Falls n xs s → Null n s
-null_of_falls n xs s h (inl e) = Null.stops e
-null_of_falls n xs s h (inr v) = at (move_of (edge_at n v.number).kind) refl v.holds
+-- states of a list of nullable states lead to nullable states
+nullable_of_falls : (n : Net) (xs : List ℕ) (s : ℕ) → AllNullable n xs → Falls n xs s → Nullable n s
+nullable_of_falls n xs s h (inl e) = Nullable.stops e
+nullable_of_falls n xs s h (inr v) = at (move_of (edge_at n v.number).kind) refl v.holds
   where
     edge : (m : Move) → move_of (edge_at n v.number).kind ≡ m → HasEdge n s (edge_at n v.number).target m
     edge m is = record { number = v.number; of = (v.from, v.below); leads = refl; moves = is }
 
-    at : (m : Move) → move_of (edge_at n v.number).kind ≡ m → over_by xs (edge_at n v.number).target m ≡ true → Null n s
-    at Along is o = Null.along (edge Along is) (h _ o)
-    at (Call f) is o = let p = and_parts (elem (edge_at n v.number).target xs) (elem f xs) o in Null.over (edge (Call f) is) (h _ p.0) (h _ p.1)
+    at : (m : Move) → move_of (edge_at n v.number).kind ≡ m → over_by xs (edge_at n v.number).target m ≡ true → Nullable n s
+    at Along is o = Nullable.along (edge Along is) (h _ o)
+    at (Call f) is o = let p = and_parts (elem (edge_at n v.number).target xs) (elem f xs) o in Nullable.over (edge (Call f) is) (h _ p.0) (h _ p.1)
     at Token is o = absurd (both_ways false refl o)
 
 -- a state that falls is added
-pub pass_note : (n : Net) (s : ℕ) (a b c : List ℕ) → Pass n s a b → Falls n b s → c ≡ noted s b → Pass n (s + 1) a c
+pub pass_note : (n : Net) (s : ℕ) (a b c : List ℕ) → Pass n s a b → Falls n b s → c ≡ with_state s b → Pass n (s + 1) a c
 pass_note n s a b c p f is = subst (Pass n (s + 1) a) (sym is) (at (cases_Bool (elem s b)))
   where
     pushed : elem s b ≡ false → Pass n (s + 1) a (b ++ s ∷ [])
     pushed e =
-        let g = subst (λ xs. (k : ℕ) → elem k xs ≡ true → (elem k b ≡ true) ⊎ (s ≡ k)) (cond-false (elem s b) b (b ++ s ∷ []) e) (grown_noted s b).only in
+        let g = subst (λ xs. (k : ℕ) → elem k xs ≡ true → (elem k b ≡ true) ⊎ (s ≡ k)) (cond-false (elem s b) b (b ++ s ∷ []) e) (grown_with s b).only in
         record {
-          right = λ h k m. elim (g k m) [ inl x ↦ p.right h k x | inr x ↦ subst (Null n) x (null_of_falls n b s (p.right h) f) ];
+          right = λ h k m. elim (g k m) [ inl x ↦ p.right h k x | inr x ↦ subst (Nullable n) x (nullable_of_falls n b s (p.right h) f) ];
           longer = omega (arith, p.longer, length_push b s);
           same = λ x. absurd (more x);
           done = λ x. absurd (more x);
@@ -52,21 +52,21 @@ pass_note n s a b c p f is = subst (Pass n (s + 1) a) (sym is) (at (cases_Bool (
         more : length (b ++ s ∷ []) ≡ length a → ⊥
         more x = omega (arith, p.longer, length_push b s, x)
 
-    at : (elem s b ≡ true) ⊎ (elem s b ≡ false) → Pass n (s + 1) a (noted s b)
+    at : (elem s b ≡ true) ⊎ (elem s b ≡ false) → Pass n (s + 1) a (with_state s b)
     at (inl e) = subst (Pass n (s + 1) a) (sym (cond-true (elem s b) b (b ++ s ∷ []) e)) (pass_skip n s a b p (λ _. e))
     at (inr e) = subst (Pass n (s + 1) a) (sym (cond-false (elem s b) b (b ++ s ∷ []) e)) (pushed e)
 
--- a list with nothing to add holds every null state
-listed_of_null : {n : Net} {s : ℕ} (xs : List ℕ) → ((i : ℕ) → Falls n xs i → elem i xs ≡ true) → Null n s → elem s xs ≡ true
-listed_of_null xs d (Null.stops e) = d _ (inl e)
-listed_of_null {n} xs d (Null.along {t = t} e u) =
-    d _ (inr (record { number = e.number; from = e.of.0; below = e.of.1; holds = ap (over_by xs (edge_at n e.number).target) e.moves ∙ subst (λ x. elem x xs ≡ true) (sym e.leads) (listed_of_null {s = t} xs d u) }))
-listed_of_null {n} xs d (Null.over {t = t} {f = f} e u v) =
-    d _ (inr (record { number = e.number; from = e.of.0; below = e.of.1; holds = ap (over_by xs (edge_at n e.number).target) e.moves ∙ and_from _ _ (subst (λ x. elem x xs ≡ true) (sym e.leads) (listed_of_null {s = t} xs d u)) (listed_of_null {s = f} xs d v) }))
+-- a list with nothing to add holds every nullable state
+listed_of_nullable : {n : Net} {s : ℕ} (xs : List ℕ) → ((i : ℕ) → Falls n xs i → elem i xs ≡ true) → Nullable n s → elem s xs ≡ true
+listed_of_nullable xs d (Nullable.stops e) = d _ (inl e)
+listed_of_nullable {n} xs d (Nullable.along {t = t} e u) =
+    d _ (inr (record { number = e.number; from = e.of.0; below = e.of.1; holds = ap (over_by xs (edge_at n e.number).target) e.moves ∙ subst (λ x. elem x xs ≡ true) (sym e.leads) (listed_of_nullable {s = t} xs d u) }))
+listed_of_nullable {n} xs d (Nullable.over {t = t} {f = f} e u v) =
+    d _ (inr (record { number = e.number; from = e.of.0; below = e.of.1; holds = ap (over_by xs (edge_at n e.number).target) e.moves ∙ and_from _ _ (subst (λ x. elem x xs ≡ true) (sym e.leads) (listed_of_nullable {s = t} xs d u)) (listed_of_nullable {s = f} xs d v) }))
 
 -- the last pass added nothing
-pub pass_end : (n : Net) (a b : List ℕ) → Pass n (size n) a b → length b ≡ length a → AllNull n a → KnowsNull n b
-pass_end n a b p e h k = (p.right h k, λ u. subst (λ xs. elem k xs ≡ true) (sym (p.same e)) (listed_of_null a done u))
+pub pass_end : (n : Net) (a b : List ℕ) → Pass n (size n) a b → length b ≡ length a → AllNullable n a → KnowsNullable n b
+pass_end n a b p e h k = (p.right h k, λ u. subst (λ xs. elem k xs ≡ true) (sym (p.same e)) (listed_of_nullable a done u))
   where
     past : (i : ℕ) → size n ≤ i → Falls n a i → ⊥
     past i l (inl s) = both_ways false refl (subst (λ x. is_stop x.kind ≡ true) (get_or_past n.states i no_state l) s)

@@ -8,7 +8,7 @@ use Rattle.atn_graph.specs.declared.transition.Move.TheVariants.{Along, Call, To
 use Rattle.atn_graph.specs.Kinds.{move_of}
 use Rattle.atn_graph.specs.Net.{Net, net, size, edge_at}
 use Rattle.atn.specs.Walks.{HasEdge, Walk, LeftRecursiveFrom}
-use Rattle.atn.specs.Reach.{Listed, KnowsNull, KnowsReached, KnowsReachedOver}
+use Rattle.atn.specs.Reach.{Listed, KnowsNullable, KnowsReached, KnowsReachedOver}
 use Rattle.atn.specs.Calls.{calls_by, is_call, calls, Calls}
 use Rattle.atn.proofs.Growth.{elem_at, place_of}
 use Rattle.atn.proofs.Some.{no_edges, any_place, place_any, any_edge}
@@ -41,7 +41,7 @@ none_outside n s l r = at r.walk r.calls
     at (Walk.call e w) _ = no_edges n s e.number l e.of
 
 -- A rule is left-recursive if a state that its start state reaches calls the start state.
-module _ (g : Graph) (s : ℕ) (nulls xs : List ℕ) (known : KnowsNull (net g.lists) nulls) where
+module _ (g : Graph) (s : ℕ) (nullables xs : List ℕ) (known : KnowsNullable (net g.lists) nullables) where
   found_recursive : KnowsReached (net g.lists) s xs → Decides (list_any (λ k. calls (net g.lists) k s) xs) (LeftRecursiveFrom (net g.lists) s)
   found_recursive reached = (there, back)
     where
@@ -52,7 +52,7 @@ module _ (g : Graph) (s : ℕ) (nulls xs : List ℕ) (known : KnowsNull (net g.l
           let k = get_or xs p.0 0 in
           let w = walk_of_reaches ((reached k).0 (elem_at xs p.0 p.1)) [] in
           let e = edge_of_calls n k s ((any_edge g k (is_call s)).0 p.2) in
-          record { state = k; pile = w.0; follow = e.0; walk = w.1; calls = e.1 }
+          record { state = k; stack = w.0; follow = e.0; walk = w.1; calls = e.1 }
 
       back : LeftRecursiveFrom (net g.lists) s → list_any (λ k. calls (net g.lists) k s) xs ≡ true
       back r =
@@ -61,11 +61,11 @@ module _ (g : Graph) (s : ℕ) (nulls xs : List ℕ) (known : KnowsNull (net g.l
           let c = (any_edge g r.state (is_call s)).1 (calls_of_edge n r.state s r.follow r.calls) in
           place_any (λ k. calls n k s) 0 xs p.0 p.1 (ap (λ k. calls n k s) p.2 ∙ c)
 
-  pub decides_recursive : (s < size (net g.lists) → KnowsReachedOver (Listed nulls) (net g.lists) s xs) → (size (net g.lists) ≤ s → xs ≡ []) → Decides (list_any (λ k. calls (net g.lists) k s) xs) (LeftRecursiveFrom (net g.lists) s)
+  pub decides_recursive : (s < size (net g.lists) → KnowsReachedOver (Listed nullables) (net g.lists) s xs) → (size (net g.lists) ≤ s → xs ≡ []) → Decides (list_any (λ k. calls (net g.lists) k s) xs) (LeftRecursiveFrom (net g.lists) s)
   decides_recursive inside outside = at (cases_lt s (size (net g.lists)))
     where
       at : (s < size (net g.lists)) ⊎ (size (net g.lists) ≤ s) → Decides (list_any (λ k. calls (net g.lists) k s) xs) (LeftRecursiveFrom (net g.lists) s)
-      at (inl l) = found_recursive (knows_over (net g.lists) s xs nulls known (inside l))
+      at (inl l) = found_recursive (knows_over (net g.lists) s xs nullables known (inside l))
       at (inr l) = (
         λ h. absurd (both_ways false refl (sym (ap (list_any (λ k. calls (net g.lists) k s)) (outside l)) ∙ h)),
         λ r. absurd (none_outside (net g.lists) s l r),

@@ -4,9 +4,9 @@ use Rattle.std.proofs.lemmas.Bool.{cases_eq, both_ways}
 use Rattle.atn_graph.specs.declared.graph.Graph.{Graph}
 use Rattle.atn_graph.specs.Net.{Net, net, size}
 use Rattle.atn.specs.Marks.{elem, Grown}
-use Rattle.atn.specs.Found.{noted}
+use Rattle.atn.specs.Found.{with_state}
 use Rattle.atn.specs.Reach.{StepOver, ReachesOver, KnowsReachedOver}
-use Rattle.atn.proofs.Growth.{grown_noted, elem_at, place_of}
+use Rattle.atn.proofs.Growth.{grown_with, elem_at, place_of}
 use Rattle.atn.proofs.Steps.{step_inside}
 
 -- The states found are reached from s, and those before place next have been visited.
@@ -20,7 +20,7 @@ reaches_then : {N : ℕ → Type 0} {n : Net} {i s k : ℕ} → ReachesOver N n 
 reaches_then ReachesOver.here e = ReachesOver.more e ReachesOver.here
 reaches_then (ReachesOver.more d r) e = ReachesOver.more d (reaches_then r e)
 
-pub search_start : (N : ℕ → Type 0) (g : Graph) (s : ℕ) (xs ys : List ℕ) → xs ≡ [] → ys ≡ noted s xs → s < size (net g.lists) → Search N g s 0 ys
+pub search_start : (N : ℕ → Type 0) (g : Graph) (s : ℕ) (xs ys : List ℕ) → xs ≡ [] → ys ≡ with_state s xs → s < size (net g.lists) → Search N g s 0 ys
 search_start N g s xs ys x y l = record {
   start = gr.marks s refl;
   reached = λ k h. subst (ReachesOver N (net g.lists) s) (at k h) ReachesOver.here;
@@ -32,7 +32,7 @@ search_start N g s xs ys x y l = record {
     none i b = omega arith
 
     gr : Grown (λ k. s ≡ k) [] ys
-    gr = subst (λ b. Grown (λ k. s ≡ k) [] b) (sym (y ∙ ap (noted s) x)) (grown_noted s [])
+    gr = subst (λ b. Grown (λ k. s ≡ k) [] b) (sym (y ∙ ap (with_state s) x)) (grown_with s [])
 
     at : (k : ℕ) → elem k ys ≡ true → s ≡ k
     at k h = elim (gr.only k h) [ inl e ↦ absurd (both_ways false refl e) | inr e ↦ e ]

@@ -3,11 +3,11 @@ use Rattle.std.specs.Prelude.{◌≡◌, ℕ, ◌<◌, ◌≤◌, List, length, 
 use Rattle.errors.specs.declared.denial.Denial.{Denial}
 use Rattle.errors.specs.declared.denial.Denial.TheVariants.{ShortTable, OutsideLimits, BrokenRule, LeftRecursion}
 use Rattle.atn_graph.specs.declared.atn_state.StateKind.{StateKind}
-use Rattle.atn_graph.specs.Kinds.{state_number}
+use Rattle.atn_graph.specs.Kinds.{state_kind_number}
 use Rattle.atn_graph.specs.Tables.{Rows}
 use Rattle.atn_graph.specs.Net.{Net, net, size, rule_at, state_at}
-use Rattle.atn_graph.specs.Written.{Writes}
-use Rattle.atn_graph.specs.Faults.{Fault as TableFault}
+use Rattle.atn_graph.specs.Written.{WritesNet}
+use Rattle.atn_graph.specs.Faults.{TableFault}
 use Rattle.atn.specs.declared.atn.Atn.{Atn}
 use Rattle.atn.specs.Walks.{HasLeftRecursion}
 
@@ -15,12 +15,12 @@ abbrev pub net_of : Atn → Net
 net_of a = net a.graph.lists
 
 -- Which denials fit the tables of a net.
-abbrev pub Fault : Rows → Denial → Type 0
-Fault t ShortTable = TableFault t ShortTable
-Fault t OutsideLimits = TableFault t OutsideLimits
-Fault t BrokenRule = TableFault t BrokenRule
-Fault t LeftRecursion = (n : Net) × Writes t n × HasLeftRecursion n
-Fault t _ = ⊥
+abbrev pub NetFault : Rows → Denial → Type 0
+NetFault t ShortTable = TableFault t ShortTable
+NetFault t OutsideLimits = TableFault t OutsideLimits
+NetFault t BrokenRule = TableFault t BrokenRule
+NetFault t LeftRecursion = (n : Net) × WritesNet t n × HasLeftRecursion n
+NetFault t _ = ⊥
 
 -- the kind of state s, none past the last state
 abbrev pub kind_of : Net → ℕ → Option StateKind
@@ -29,11 +29,11 @@ kind_of n s = if nat_lt s (size n) then Some (state_at n s).kind else None
 -- the number by which a kind is answered: 0 if there is none
 abbrev pub kind_number : Option StateKind → ℕ
 kind_number None = 0
-kind_number (Some k) = state_number k
+kind_number (Some k) = state_kind_number k
 
 -- so the number of the kind of state s is 0 past the last state
 abbrev pub kind_number_at : Net → ℕ → ℕ
-kind_number_at n s = if nat_lt s (size n) then state_number (state_at n s).kind else 0
+kind_number_at n s = if nat_lt s (size n) then state_kind_number (state_at n s).kind else 0
 
 -- the start state of rule r, none past the last rule
 abbrev pub start_of : Net → ℕ → Option ℕ

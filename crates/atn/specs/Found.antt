@@ -8,5 +8,5 @@ abbrev pub found : Visits → List ℕ
 found v = items v.order
 
 -- the list with k at its end, unless k is in it already
-abbrev pub noted : ℕ → List ℕ → List ℕ
-noted k xs = cond (elem k xs) xs (xs ++ k ∷ [])
+abbrev pub with_state : ℕ → List ℕ → List ℕ
+with_state k xs = cond (elem k xs) xs (xs ++ k ∷ [])

@@ -9,8 +9,8 @@ use Rattle.atn_graph.specs.Net.{Net, Of, edge_at}
 use Rattle.atn_graph.specs.Rules.{part}
 
 -- x is a token type of the net
-abbrev pub is_type : Net → ℤ → Bool
-is_type n x = inside (from_to (pos 1) n.max) x
+abbrev pub is_net_type : Net → ℤ → Bool
+is_net_type n x = inside (from_to (pos 1) n.max) x
 
 -- An atom takes its type, a range and a set those they hold, a not-set every type of the net but those it holds,
 -- a wildcard every type of the net; the other edges take none.
@@ -22,8 +22,8 @@ takes n Predicate x = false
 takes n (Atom t) x = inside (from_to t t) x
 takes n Action x = false
 takes n (Set f c) x = has (part n f c) x
-takes n (NotSet f c) x = is_type n x && not (has (part n f c) x)
-takes n Wildcard x = is_type n x
+takes n (NotSet f c) x = is_net_type n x && not (has (part n f c) x)
+takes n Wildcard x = is_net_type n x
 takes n Precedence x = false
 
 -- the label of edge number j, and none exactly past the last edge

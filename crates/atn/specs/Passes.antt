@@ -1,4 +1,4 @@
--- One pass over the states of a net that adds null states to a list.
+-- One pass over the states of a net that adds nullable states to a list.
 use Rattle.std.specs.Prelude.{◌≡◌, ℕ, ◌<◌, ◌≤◌, Bool, true, false, ◌&&◌, ◌⊎◌, List, length}
 use Rattle.atn_graph.specs.declared.transition.Move.{Move}
 use Rattle.atn_graph.specs.declared.transition.Move.TheVariants.{Along, Call, Token}
@@ -8,7 +8,7 @@ use Rattle.atn_graph.specs.Net.{Net, state_at}
 use Rattle.atn.specs.Among.{Among}
 use Rattle.atn.specs.Walks.{Stop}
 use Rattle.atn.specs.Marks.{elem}
-use Rattle.atn.specs.Reach.{Null}
+use Rattle.atn.specs.Reach.{Nullable}
 
 -- an edge to t leads over states of the list
 abbrev pub over_by : List ℕ → ℕ → Move → Bool
@@ -27,12 +27,12 @@ OverAmong n xs low high = Among (λ e. over_listed xs e ≡ true) n low high
 abbrev pub Falls : Net → List ℕ → ℕ → Type 0
 Falls n xs s = Stop n s ⊎ OverAmong n xs (state_at n s).first (state_at n s).end
 
-abbrev pub AllNull : Net → List ℕ → Type 0
-AllNull n xs = (k : ℕ) → elem k xs ≡ true → Null n k
+abbrev pub AllNullable : Net → List ℕ → Type 0
+AllNullable n xs = (k : ℕ) → elem k xs ≡ true → Nullable n k
 
--- Null states stay null states; if nothing is new, the states before upto have nothing to add.
+-- Nullable states stay nullable states; if nothing is new, the states before upto have nothing to add.
 pub record Pass (n : Net) (upto : ℕ) (before after : List ℕ) : Type 0 where
-  pub right : AllNull n before → AllNull n after
+  pub right : AllNullable n before → AllNullable n after
   pub longer : length before ≤ length after
   pub same : length after ≡ length before → after ≡ before
   pub done : length after ≡ length before → (s : ℕ) → s < upto → Falls n before s → elem s before ≡ true

@@ -1,4 +1,4 @@
--- The states that walks come to, without piles: a walk never looks below the top of its pile.
+-- The states that walks come to, without stacks: a walk never looks below the top of its stack.
 use Rattle.std.specs.Prelude.{◌≡◌, ℕ, true, ◌⊎◌, List}
 use Rattle.atn_graph.specs.declared.transition.Move.{Move}
 use Rattle.atn_graph.specs.declared.transition.Move.TheVariants.{Along, Call, Token}
@@ -9,11 +9,11 @@ use Rattle.atn.specs.Among.{Among}
 use Rattle.atn.specs.Walks.{Stop, HasEdge}
 use Rattle.atn.specs.Marks.{elem}
 
--- A walk on an empty pile from s can end on a stop state.
-pub data Null (n : Net) : ℕ → Type 0 where
-  stops : {s : ℕ} → Stop n s → Null n s
-  along : {s t : ℕ} → HasEdge n s t Along → Null n t → Null n s
-  over : {s t f : ℕ} → HasEdge n s t (Call f) → Null n t → Null n f → Null n s
+-- A walk on an empty stack from s can end on a stop state.
+pub data Nullable (n : Net) : ℕ → Type 0 where
+  stops : {s : ℕ} → Stop n s → Nullable n s
+  along : {s t : ℕ} → HasEdge n s t Along → Nullable n t → Nullable n s
+  over : {s t f : ℕ} → HasEdge n s t (Call f) → Nullable n t → Nullable n f → Nullable n s
 
 -- A step leads along an edge, into a called rule, or over a rule edge to a start state that N tells of.
 pub data StepOver (N : ℕ → Type 0) (n : Net) : ℕ → ℕ → Type 0 where
@@ -25,12 +25,12 @@ pub data ReachesOver (N : ℕ → Type 0) (n : Net) : ℕ → ℕ → Type 0 whe
   here : {s : ℕ} → ReachesOver N n s s
   more : {s t k : ℕ} → StepOver N n s t → ReachesOver N n t k → ReachesOver N n s k
 
--- over the rules that are null
+-- over the rules that are nullable
 abbrev pub Step : Net → ℕ → ℕ → Type 0
-Step n = StepOver (Null n) n
+Step n = StepOver (Nullable n) n
 
 abbrev pub Reaches : Net → ℕ → ℕ → Type 0
-Reaches n = ReachesOver (Null n) n
+Reaches n = ReachesOver (Nullable n) n
 
 -- k is in the list
 abbrev pub Listed : List ℕ → ℕ → Type 0
@@ -49,24 +49,24 @@ LeadsOver N e k = LeadsByOver N e.target (move_of e.kind) k
 abbrev pub LeadsAmongOver : (ℕ → Type 0) → Net → ℕ → ℕ → ℕ → Type 0
 LeadsAmongOver N n low high k = Among (λ e. LeadsOver N e k) n low high
 
--- the same over the rules that are null
+-- the same over the rules that are nullable
 abbrev pub LeadsBy : Net → ℕ → Move → ℕ → Type 0
-LeadsBy n = LeadsByOver (Null n)
+LeadsBy n = LeadsByOver (Nullable n)
 
 abbrev pub Leads : Net → Transition → ℕ → Type 0
-Leads n = LeadsOver (Null n)
+Leads n = LeadsOver (Nullable n)
 
 abbrev pub LeadsAmong : Net → ℕ → ℕ → ℕ → Type 0
-LeadsAmong n = LeadsAmongOver (Null n) n
+LeadsAmong n = LeadsAmongOver (Nullable n) n
 
--- the states of the list are exactly the null ones
-abbrev pub KnowsNull : Net → List ℕ → Type 0
-KnowsNull n xs = (k : ℕ) → ((elem k xs ≡ true → Null n k) × (Null n k → elem k xs ≡ true))
+-- the states of the list are exactly the nullable ones
+abbrev pub KnowsNullable : Net → List ℕ → Type 0
+KnowsNullable n xs = (k : ℕ) → ((elem k xs ≡ true → Nullable n k) × (Nullable n k → elem k xs ≡ true))
 
 -- the states of the list are exactly those that s reaches
 abbrev pub KnowsReachedOver : (ℕ → Type 0) → Net → ℕ → List ℕ → Type 0
 KnowsReachedOver N n s xs = (k : ℕ) → ((Listed xs k → ReachesOver N n s k) × (ReachesOver N n s k → Listed xs k))
 
--- exactly those that it reaches over the rules that are null
+-- exactly those that it reaches over the rules that are nullable
 abbrev pub KnowsReached : Net → ℕ → List ℕ → Type 0
-KnowsReached n = KnowsReachedOver (Null n) n
+KnowsReached n = KnowsReachedOver (Nullable n) n

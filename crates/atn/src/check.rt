@@ -3,8 +3,8 @@ ghost use Rattle.std.specs.Prelude.{◌≡◌, length, IfOk};
 ghost use Rattle.errors.specs.Denials.{DeniesFirst};
 ghost use Rattle.atn_graph.specs.Tables.{rows};
 ghost use Rattle.atn_graph.specs.Net.{size, no_rule, no_state, no_edge};
-ghost use Rattle.atn_graph.specs.Written.{Writes};
-ghost use Rattle.atn.specs.Checked.{net_of, Fault, Picks};
+ghost use Rattle.atn_graph.specs.Written.{WritesNet};
+ghost use Rattle.atn.specs.Checked.{net_of, NetFault, Picks};
 
 use crate::atn::Atn;
 use crate::recursion::is_left_recursive;
@@ -18,8 +18,8 @@ use errors::denial::Denial;
 impl Atn {
     // The net that the tables write, or the first denial that fits them.
     pub fn check(t: &Tables<'_>) -> Result<Atn, Denial>
-        ensures verdict { DeniesFirst (Fault (rows t.now)) result }
-        ensures written { IfOk result (λ n. Writes (rows t.now) (net_of n)) }
+        ensures verdict { DeniesFirst (NetFault (rows t.now)) result }
+        ensures written { IfOk result (λ n. WritesNet (rows t.now) (net_of n)) }
     {
         let graph = Graph::check(t)?;
         if is_left_recursive(&graph) {

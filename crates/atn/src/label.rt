@@ -4,7 +4,7 @@ ghost use Rattle.interval_set.specs.Intervals.{inside, has};
 ghost use Rattle.interval_set.specs.Members.{holds};
 ghost use Rattle.atn_graph.specs.Rules.{part, interval_fits, set_fits, LabelFits};
 ghost use Rattle.atn.specs.Checked.{net_of};
-ghost use Rattle.atn.specs.Labels.{is_type, takes, Labels, TakesAt};
+ghost use Rattle.atn.specs.Labels.{is_net_type, takes, Labels, TakesAt};
 
 use crate::atn::Atn;
 use atn_graph::transition::TransitionKind;
@@ -38,7 +38,7 @@ impl Atn {
 
     // Every type of the net.
     fn types(&self) -> IntervalSet
-        ensures { (x : ℤ) → holds result x ≡ is_type (net_of self.now) x }
+        ensures { (x : ℤ) → holds result x ≡ is_net_type (net_of self.now) x }
     {
         self.interval_label(Interval {
             a: 1,

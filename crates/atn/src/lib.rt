@@ -5,7 +5,7 @@ pub mod check;
 pub mod label;
 pub mod lookup;
 pub mod nullable;
-pub mod nulls;
+pub mod nullables;
 pub mod reach;
 pub mod recursion;
 pub mod visiting;

@@ -1,32 +1,32 @@
-// How the null states are found.
+// How the nullable states are found.
 ghost use Rattle.std.specs.Prelude.{◌≡◌, Decides};
 ghost use Rattle.std.specs.List.{list_any};
 ghost use Rattle.atn_graph.specs.Net.{net, size};
 ghost use Rattle.atn.specs.Marks.{elem};
 ghost use Rattle.atn.specs.Found.{found};
 ghost use Rattle.atn.specs.Passes.{over_listed, Falls, Pass};
-ghost use Rattle.atn.specs.Reach.{KnowsNull};
+ghost use Rattle.atn.specs.Reach.{KnowsNullable};
 
-use crate::nulls::NullStates;
+use crate::nullables::NullableStates;
 use crate::visits::Visits;
 use atn_graph::graph::Graph;
 use atn_graph::transition::{Move, Transition};
 
-impl<'g> NullStates<'g> {
+impl<'g> NullableStates<'g> {
     // Passes until one adds nothing.
-    pub fn of(graph: &'g Graph) -> NullStates<'g>
+    pub fn of(graph: &'g Graph) -> NullableStates<'g>
         ensures graph { result.graph.now ≡ graph.now }
-        ensures known { KnowsNull (net graph.now.lists) (found result.states) }
+        ensures known { KnowsNullable (net graph.now.lists) (found result.states) }
     {
-        let mut nulls = NullStates {
+        let mut nullables = NullableStates {
             graph,
             states: Visits::new(),
         };
         loop {
-            let before = nulls.states.len();
-            nulls.pass();
-            if nulls.states.len() == before {
-                return nulls;
+            let before = nullables.states.len();
+            nullables.pass();
+            if nullables.states.len() == before {
+                return nullables;
             }
         }
     }
@@ -37,7 +37,7 @@ impl<'g> NullStates<'g> {
         self.states.has(s)
     }
 
-    // Whether the edge leads over null states.
+    // Whether the edge leads over nullable states.
     fn leads_over(&self, e: &Transition) -> bool
         ensures { result ≡ over_listed (found self.now.states) e.now }
     {
@@ -54,7 +54,7 @@ impl<'g> NullStates<'g> {
         edges.iter().any(|e| self.leads_over(e))
     }
 
-    // Whether s is a stop state or has an edge that leads over null states.
+    // Whether s is a stop state or has an edge that leads over nullable states.
     fn falls(&self, s: usize) -> bool
         ensures { Decides result (Falls (net self.now.graph.now.lists) (found self.now.states) s) }
     {

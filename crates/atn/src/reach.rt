@@ -7,11 +7,11 @@ ghost use Rattle.atn.specs.Marks.{Grown};
 ghost use Rattle.atn.specs.Found.{found};
 ghost use Rattle.atn.specs.Reach.{StepOver, Listed, LeadsOver, KnowsReachedOver};
 
-use crate::nulls::NullStates;
+use crate::nullables::NullableStates;
 use crate::visits::Visits;
 use atn_graph::transition::{Move, Transition};
 
-impl NullStates<'_> {
+impl NullableStates<'_> {
     // Notes the states that the edge leads to.
     fn follow(&self, e: &Transition, visits: &mut Visits)
         requires target { e.now.target < 512 }

@@ -4,10 +4,10 @@ ghost use Rattle.std.specs.List.{list_any};
 ghost use Rattle.atn_graph.specs.Net.{net};
 ghost use Rattle.atn.specs.Calls.{is_call, calls};
 ghost use Rattle.atn.specs.Found.{found};
-ghost use Rattle.atn.specs.Reach.{KnowsNull};
+ghost use Rattle.atn.specs.Reach.{KnowsNullable};
 ghost use Rattle.atn.specs.Walks.{LeftRecursiveFrom, HasLeftRecursion};
 
-use crate::nulls::NullStates;
+use crate::nullables::NullableStates;
 use atn_graph::graph::Graph;
 use atn_graph::transition::{Move, Transition};
 
@@ -34,10 +34,10 @@ fn some_call(g: &Graph, states: &[usize], t: usize) -> bool
     states.iter().any(|s| any_calls(g.edges(*s), t))
 }
 
-impl NullStates<'_> {
-    // Whether a walk from the start state s on an empty pile reaches a rule edge to s.
+impl NullableStates<'_> {
+    // Whether a walk from the start state s on an empty stack reaches a rule edge to s.
     fn is_recursive(&self, s: usize) -> bool
-        requires { KnowsNull (net self.now.graph.now.lists) (found self.now.states) }
+        requires { KnowsNullable (net self.now.graph.now.lists) (found self.now.states) }
         ensures { Decides result (LeftRecursiveFrom (net self.now.graph.now.lists) s) }
     {
         some_call(self.graph, self.reach(s).states(), s)
@@ -48,10 +48,10 @@ impl NullStates<'_> {
 pub(crate) fn is_left_recursive(g: &Graph) -> bool
     ensures { Decides result (HasLeftRecursion (net g.now.lists)) }
 {
-    let nulls = NullStates::of(g);
-    // kept as a loop: what `is_recursive` asks of the null states is no clause of a closure
+    let nullables = NullableStates::of(g);
+    // kept as a loop: what `is_recursive` asks of the nullable states is no clause of a closure
     for rule in g.lists.rules.iter() {
-        if nulls.is_recursive(rule.start) {
+        if nullables.is_recursive(rule.start) {
             return true;
         }
     }

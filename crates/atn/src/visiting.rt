@@ -1,7 +1,7 @@
 // What is asked of the states found, and how one more is noted.
 ghost use Rattle.std.specs.Prelude.{◌≡◌, ◌<◌, [], length};
 ghost use Rattle.atn.specs.Marks.{elem};
-ghost use Rattle.atn.specs.Found.{found, noted};
+ghost use Rattle.atn.specs.Found.{found, with_state};
 
 use crate::visits::Visits;
 use fixed_vec::fixed_vec::FixedVec;
@@ -38,7 +38,7 @@ impl Visits {
     // Adds the state k unless it is found already.
     pub(crate) fn note(&mut self, k: usize)
         requires { k < 512 }
-        ensures { found self.new ≡ noted k (found self.old) }
+        ensures { found self.new ≡ with_state k (found self.old) }
     {
         if !self.seen[k] {
             self.seen[k] = true;

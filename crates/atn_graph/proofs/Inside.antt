@@ -13,7 +13,7 @@ use Rattle.atn_graph.specs.declared.transition.TransitionKind.TheVariants.{Epsil
 use Rattle.atn_graph.specs.Kinds.{move_of}
 use Rattle.atn_graph.specs.Tables.{outside, counts_outside}
 use Rattle.atn_graph.specs.Net.{Net, net, size, Of, Runs, end_before, rule_at, state_at, edge_at}
-use Rattle.atn_graph.specs.Rules.{Sound, in_rule, eof_only, range_fits, interval_fits, set_fits, kind_fits, LabelFits, counts_of}
+use Rattle.atn_graph.specs.Rules.{IsSoundNet, in_rule, eof_only, range_fits, interval_fits, set_fits, kind_fits, LabelFits, counts_of}
 use Rattle.atn_graph.proofs.Sizes.{few_items}
 use Rattle.atn_graph.proofs.Runs.{ends_rise}
 use Rattle.atn_graph.proofs.Soundness.{sound_of, runs_of}
@@ -22,7 +22,7 @@ use Rattle.atn_graph.proofs.Soundness.{sound_of, runs_of}
 in_net : (n : Net) (t r : ℕ) → in_rule n t r ≡ true → t < size n
 in_net n t r h = ltb-true t (size n) (and_parts (ltb t (size n)) (eqb (state_at n t).rule r) h).0
 
-kind_target : (n : Net) → Sound n → (s : AtnState) (t : ℕ) (k : TransitionKind) → kind_fits n s t k ≡ true → t < size n
+kind_target : (n : Net) → IsSoundNet n → (s : AtnState) (t : ℕ) (k : TransitionKind) → kind_fits n s t k ≡ true → t < size n
 kind_target n w s t Epsilon h = in_net n t s.rule h
 kind_target n w s t (Range i) h = in_net n t s.rule (and_parts (in_rule n t s.rule) (range_fits n i) h).0
 kind_target n w s t (Rule r f) h =

@@ -9,7 +9,7 @@ use Rattle.atn_graph.specs.declared.atn_state.AtnState.{AtnState}
 use Rattle.atn_graph.specs.declared.transition.Transition.{Transition}
 use Rattle.atn_graph.specs.declared.transition.TransitionKind.{TransitionKind}
 use Rattle.atn_graph.specs.declared.transition.TransitionKind.TheVariants.{Epsilon, Range, Rule, Predicate, Atom, Action, Set, NotSet, Wildcard, Precedence}
-use Rattle.atn_graph.specs.Kinds.{state_number, transition_number}
+use Rattle.atn_graph.specs.Kinds.{state_kind_number, transition_number}
 use Rattle.atn_graph.specs.Net.{no_state, end_before}
 use Rattle.atn_graph.specs.Written.{WritesState, no_state_row, WritesEdge, Columns}
 use Rattle.atn_graph.specs.Reading.{StatesRead, KindRead}
@@ -23,7 +23,7 @@ index_of (negsuc n) = 0
 abbrev kind_numbered : ℕ → StateKind
 kind_numbered n = get_or (Basic ∷ Basic ∷ RuleStart ∷ BlockStart ∷ PlusBlockStart ∷ StarBlockStart ∷ Basic ∷ RuleStop ∷ BlockEnd ∷ StarLoopBack ∷ StarLoopEntry ∷ PlusLoopBack ∷ LoopEnd ∷ []) n Basic
 
-kind_numbered_is : (k : StateKind) → kind_numbered (state_number k) ≡ k
+kind_numbered_is : (k : StateKind) → kind_numbered (state_kind_number k) ≡ k
 kind_numbered_is Basic = refl
 kind_numbered_is RuleStart = refl
 kind_numbered_is BlockStart = refl
@@ -36,7 +36,7 @@ kind_numbered_is StarLoopEntry = refl
 kind_numbered_is PlusLoopBack = refl
 kind_numbered_is LoopEnd = refl
 
-same_kind : (j k : StateKind) → state_number j ≡ state_number k → j ≡ k
+same_kind : (j k : StateKind) → state_kind_number j ≡ state_kind_number k → j ≡ k
 same_kind j k e = sym (kind_numbered_is j) ∙ ap kind_numbered e ∙ kind_numbered_is k
 
 -- a row and a place to begin write one state

@@ -13,7 +13,7 @@ use Rattle.atn_graph.specs.declared.tables.EdgeRow.{EdgeRow}
 use Rattle.atn_graph.specs.declared.atn_state.AtnState.{AtnState}
 use Rattle.atn_graph.specs.Tables.{Rows, shorter, short_table, outside, counts_outside, outside_limits}
 use Rattle.atn_graph.specs.Net.{Net, no_rule, no_state, no_edge, end_before}
-use Rattle.atn_graph.specs.Written.{Writes, rule_row, no_rule_row, WritesState, no_state_row, WritesEdge, no_edge_row}
+use Rattle.atn_graph.specs.Written.{WritesNet, rule_row, no_rule_row, WritesState, no_state_row, WritesEdge, no_edge_row}
 use Rattle.atn_graph.specs.Reading.{IsCount, FirstRows, StatesRead}
 use Rattle.atn_graph.proofs.Rows.{at_place}
 
@@ -51,7 +51,7 @@ pub writes_lists : (t : Rows) (n : Net) (rules : List RuleRow) (states : List St
     → FirstRows t.counts.rules t.rules rules → AllZip (λ row r. rule_row r ≡ row) rules n.rules
     → FirstRows t.counts.states t.states states → length n.states ≡ length states → StatesRead states (length states) n.states
     → FirstRows t.counts.edges t.edges edges → AllZip WritesEdge edges n.edges
-    → FirstRows t.counts.intervals t.intervals intervals → n.intervals ≡ intervals → Writes t n
+    → FirstRows t.counts.intervals t.intervals intervals → n.intervals ≡ intervals → WritesNet t n
 writes_lists t n rules states edges intervals m cr zr cs ls zs ce ze ci zi = record {
   max = m;
   rule_count = ap pos (AllZip-long (λ row r. rule_row r ≡ row) rules n.rules zr) ∙ cr.0;

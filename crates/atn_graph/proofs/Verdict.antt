@@ -8,9 +8,9 @@ use Rattle.errors.specs.Denials.{IsBefore, First}
 use Rattle.atn_graph.specs.declared.lists.Rule.{Rule}
 use Rattle.atn_graph.specs.Tables.{Rows, short_table, outside_limits}
 use Rattle.atn_graph.specs.Net.{Net, size, no_rule, no_state, no_edge, rule_at, edge_at}
-use Rattle.atn_graph.specs.Written.{Writes, rule_row, no_edge_row}
-use Rattle.atn_graph.specs.Rules.{Sound}
-use Rattle.atn_graph.specs.Faults.{Fault}
+use Rattle.atn_graph.specs.Written.{WritesNet, rule_row, no_edge_row}
+use Rattle.atn_graph.specs.Rules.{IsSoundNet}
+use Rattle.atn_graph.specs.Faults.{TableFault}
 use Rattle.atn_graph.proofs.ReadTables.{same_count}
 use Rattle.atn_graph.proofs.Once.{index_of, states_once, edge_once}
 
@@ -18,7 +18,7 @@ rule_once : (x y : Rule) → rule_row x ≡ rule_row y → x ≡ y
 rule_once x y e i = record { start = index_of (e i).start; stop = index_of (e i).stop }
 
 -- tables write at most one net
-pub net_once : (t : Rows) (n m : Net) → Writes t n → Writes t m → n ≡ m
+pub net_once : (t : Rows) (n m : Net) → WritesNet t n → WritesNet t m → n ≡ m
 net_once t n m w v i = record { max = max i; rules = rules i; states = states i; edges = edges i; intervals = intervals i }
   where
     max : n.max ≡ m.max
@@ -49,39 +49,39 @@ net_once t n m w v i = record { max = max i; rules = rules i; states = states i;
     intervals = w.intervals ∙ ap (λ k. take k t.intervals) interval_count ∙ sym v.intervals
 
 -- the first denials, and none
-pub first_short : (t : Rows) → short_table t ≡ true → First (Fault t) ShortTable
+pub first_short : (t : Rows) → short_table t ≡ true → First (TableFault t) ShortTable
 first_short t e = record { fits = e; none_before = before }
   where
-    before : (d : Denial) → IsBefore d ShortTable → Fault t d → ⊥
+    before : (d : Denial) → IsBefore d ShortTable → TableFault t d → ⊥
     before ShortTable l f = omega arith
     before OutsideLimits l f = omega arith
     before BrokenRule l f = omega arith
     before _ l f = f
 
-pub first_outside : (t : Rows) → short_table t ≡ false → outside_limits t ≡ true → First (Fault t) OutsideLimits
+pub first_outside : (t : Rows) → short_table t ≡ false → outside_limits t ≡ true → First (TableFault t) OutsideLimits
 first_outside t long e = record { fits = e; none_before = before }
   where
-    before : (d : Denial) → IsBefore d OutsideLimits → Fault t d → ⊥
+    before : (d : Denial) → IsBefore d OutsideLimits → TableFault t d → ⊥
     before ShortTable l f = both_ways _ long f
     before OutsideLimits l f = omega arith
     before BrokenRule l f = omega arith
     before _ l f = f
 
-pub first_broken : (t : Rows) → short_table t ≡ false → outside_limits t ≡ false → ((n : Net) → Writes t n → Sound n → ⊥) → First (Fault t) BrokenRule
+pub first_broken : (t : Rows) → short_table t ≡ false → outside_limits t ≡ false → ((n : Net) → WritesNet t n → IsSoundNet n → ⊥) → First (TableFault t) BrokenRule
 first_broken t long within broken = record { fits = broken; none_before = before }
   where
-    before : (d : Denial) → IsBefore d BrokenRule → Fault t d → ⊥
+    before : (d : Denial) → IsBefore d BrokenRule → TableFault t d → ⊥
     before ShortTable l f = both_ways _ long f
     before OutsideLimits l f = both_ways _ within f
     before BrokenRule l f = omega arith
     before _ l f = f
 
-pub no_fault : (t : Rows) (n : Net) → short_table t ≡ false → outside_limits t ≡ false → Writes t n → Sound n → (d : Denial) → Fault t d → ⊥
+pub no_fault : (t : Rows) (n : Net) → short_table t ≡ false → outside_limits t ≡ false → WritesNet t n → IsSoundNet n → (d : Denial) → TableFault t d → ⊥
 no_fault t n long within w s ShortTable f = both_ways _ long f
 no_fault t n long within w s OutsideLimits f = both_ways _ within f
 no_fault t n long within w s BrokenRule f = f n w s
 no_fault t n long within w s _ f = f
 
 -- the net that was read breaks a rule, so every net that the tables write does
-pub broken_once : (t : Rows) (n : Net) → Writes t n → (Sound n → ⊥) → (m : Net) → Writes t m → Sound m → ⊥
-broken_once t n w broken m v s = broken (subst Sound (net_once t m n v w) s)
+pub broken_once : (t : Rows) (n : Net) → WritesNet t n → (IsSoundNet n → ⊥) → (m : Net) → WritesNet t m → IsSoundNet m → ⊥
+broken_once t n w broken m v s = broken (subst IsSoundNet (net_once t m n v w) s)

@@ -4,12 +4,12 @@ use Rattle.errors.specs.declared.denial.Denial.{Denial}
 use Rattle.errors.specs.declared.denial.Denial.TheVariants.{ShortTable, OutsideLimits, BrokenRule}
 use Rattle.atn_graph.specs.Tables.{Rows, short_table, outside_limits}
 use Rattle.atn_graph.specs.Net.{Net}
-use Rattle.atn_graph.specs.Written.{Writes}
-use Rattle.atn_graph.specs.Rules.{Sound}
+use Rattle.atn_graph.specs.Written.{WritesNet}
+use Rattle.atn_graph.specs.Rules.{IsSoundNet}
 
 -- A rule is broken if the tables write no net that keeps the rules.
-abbrev pub Fault : Rows → Denial → Type 0
-Fault t ShortTable = short_table t ≡ true
-Fault t OutsideLimits = outside_limits t ≡ true
-Fault t BrokenRule = (n : Net) → Writes t n → Sound n → ⊥
-Fault t _ = ⊥
+abbrev pub TableFault : Rows → Denial → Type 0
+TableFault t ShortTable = short_table t ≡ true
+TableFault t OutsideLimits = outside_limits t ≡ true
+TableFault t BrokenRule = (n : Net) → WritesNet t n → IsSoundNet n → ⊥
+TableFault t _ = ⊥

@@ -9,29 +9,29 @@ use Rattle.atn_graph.specs.declared.transition.TransitionKind.TheVariants.{Epsil
 use Rattle.atn_graph.specs.declared.transition.Move.{Move}
 use Rattle.atn_graph.specs.declared.transition.Move.TheVariants.{Along, Call, Token}
 
-abbrev pub state_number : StateKind → ℕ
-state_number Basic = 1
-state_number RuleStart = 2
-state_number BlockStart = 3
-state_number PlusBlockStart = 4
-state_number StarBlockStart = 5
-state_number RuleStop = 7
-state_number BlockEnd = 8
-state_number StarLoopBack = 9
-state_number StarLoopEntry = 10
-state_number PlusLoopBack = 11
-state_number LoopEnd = 12
+abbrev pub state_kind_number : StateKind → ℕ
+state_kind_number Basic = 1
+state_kind_number RuleStart = 2
+state_kind_number BlockStart = 3
+state_kind_number PlusBlockStart = 4
+state_kind_number StarBlockStart = 5
+state_kind_number RuleStop = 7
+state_kind_number BlockEnd = 8
+state_kind_number StarLoopBack = 9
+state_kind_number StarLoopEntry = 10
+state_kind_number PlusLoopBack = 11
+state_kind_number LoopEnd = 12
 
 -- r is the kind with the number n, or the denial where no kind has it
-abbrev pub Numbered : ℤ → Result StateKind Denial → Type 0
-Numbered n r = MatchResult r (λ k. pos (state_number k) ≡ n) (λ d. (d ≡ BrokenRule) × ((k : StateKind) → pos (state_number k) ≢ n))
+abbrev pub KindNumbered : ℤ → Result StateKind Denial → Type 0
+KindNumbered n r = MatchResult r (λ k. pos (state_kind_number k) ≡ n) (λ d. (d ≡ BrokenRule) × ((k : StateKind) → pos (state_kind_number k) ≢ n))
 
 -- a rule's start or stop state
 abbrev pub is_start : StateKind → Bool
-is_start k = state_number k == 2
+is_start k = state_kind_number k == 2
 
 abbrev pub is_stop : StateKind → Bool
-is_stop k = state_number k == 7
+is_stop k = state_kind_number k == 7
 
 abbrev pub transition_number : TransitionKind → ℕ
 transition_number Epsilon = 1

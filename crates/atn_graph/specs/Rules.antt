@@ -87,7 +87,7 @@ pub record StateFits (n : Net) (s : ℕ) : Type 0 where
   pub edges : (j : ℕ) → Of n s j → edge_fits n s (edge_at n j) ≡ true
 
 -- The net keeps every rule but for left recursion: its rules and states fit, and the edges of the states use up all edges.
-pub record Sound (n : Net) : Type 0 where
+pub record IsSoundNet (n : Net) : Type 0 where
   pub rules : (r : ℕ) → r < length n.rules → RuleFits n r
   pub states : (s : ℕ) → s < size n → StateFits n s
   pub used_up : (state_at n (size n - 1)).end ≡ length n.edges

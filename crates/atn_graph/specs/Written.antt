@@ -8,7 +8,7 @@ use Rattle.atn_graph.specs.declared.transition.Transition.{Transition}
 use Rattle.atn_graph.specs.declared.transition.TransitionKind.{TransitionKind}
 use Rattle.atn_graph.specs.declared.transition.TransitionKind.TheVariants.{Epsilon, Range, Rule, Predicate, Atom, Action, Set, NotSet, Wildcard, Precedence}
 use Rattle.atn_graph.specs.declared.lists.Rule.{Rule as RuleStates}
-use Rattle.atn_graph.specs.Kinds.{state_number, transition_number}
+use Rattle.atn_graph.specs.Kinds.{state_kind_number, transition_number}
 use Rattle.atn_graph.specs.Tables.{Rows}
 use Rattle.atn_graph.specs.Net.{Net, rule_at, state_at, edge_at, size, end_before}
 
@@ -17,7 +17,7 @@ abbrev pub rule_row : RuleStates → RuleRow
 rule_row r = record { start = pos r.start; stop = pos r.stop }
 
 abbrev pub state_row : AtnState → StateRow
-state_row s = record { rule = pos s.rule; kind = pos (state_number s.kind); edges = pos (s.end - s.first) }
+state_row s = record { rule = pos s.rule; kind = pos (state_kind_number s.kind); edges = pos (s.end - s.first) }
 
 -- what the last two columns of an edge's row say; some kinds do not use them
 abbrev pub Columns : EdgeRow → TransitionKind → Type 0
@@ -53,7 +53,7 @@ pub record WritesState (row : StateRow) (before : ℕ) (s : AtnState) : Type 0 w
   pub rises : s.first ≤ s.end
 
 -- The tables t write the net n: as many rows as the counts say, each with its numbers; the edges of the states follow one another.
-pub record Writes (t : Rows) (n : Net) : Type 0 where
+pub record WritesNet (t : Rows) (n : Net) : Type 0 where
   pub max : n.max ≡ t.max
   pub rule_count : pos (length n.rules) ≡ t.counts.rules
   pub rules : (r : ℕ) → r < length n.rules → rule_row (rule_at n r) ≡ slice_index_or t.rules r no_rule_row

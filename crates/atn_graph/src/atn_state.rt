@@ -1,6 +1,6 @@
 // The kinds of states, by the names and numbers of ANTLR's serialized networks.
 ghost use Rattle.std.specs.Prelude.{◌≡◌, pos};
-ghost use Rattle.atn_graph.specs.Kinds.{state_number, Numbered, is_start, is_stop};
+ghost use Rattle.atn_graph.specs.Kinds.{state_kind_number, KindNumbered, is_start, is_stop};
 
 use errors::denial::Denial;
 
@@ -22,7 +22,7 @@ pub enum StateKind {
 
 impl StateKind {
     pub fn number(self) -> i32
-        ensures { result ≡ pos (state_number self) }
+        ensures { result ≡ pos (state_kind_number self) }
     {
         self as i32
     }
@@ -44,7 +44,7 @@ impl StateKind {
 impl TryFrom<i32> for StateKind {
     type Error = Denial;
 
-    ghost try_from_gives = { Numbered };
+    ghost try_from_gives = { KindNumbered };
 
     fn try_from(n: i32) -> Result<StateKind, Denial> {
         // kept as a match: a number becomes a variant in no other way

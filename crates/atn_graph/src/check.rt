@@ -3,8 +3,8 @@ ghost use Rattle.std.specs.Prelude.{IfOk};
 ghost use Rattle.errors.specs.Denials.{DeniesFirst};
 ghost use Rattle.atn_graph.specs.Tables.{rows};
 ghost use Rattle.atn_graph.specs.Net.{net};
-ghost use Rattle.atn_graph.specs.Written.{Writes};
-ghost use Rattle.atn_graph.specs.Faults.{Fault};
+ghost use Rattle.atn_graph.specs.Written.{WritesNet};
+ghost use Rattle.atn_graph.specs.Faults.{TableFault};
 
 use crate::graph::Graph;
 use crate::limits::{is_outside, is_short};
@@ -15,8 +15,8 @@ use errors::denial::Denial;
 impl Graph {
     // The graph that the tables write, or the first denial that fits them.
     pub fn check(t: &Tables<'_>) -> Result<Graph, Denial>
-        ensures verdict { DeniesFirst (Fault (rows t.now)) result }
-        ensures written { IfOk result (λ g. Writes (rows t.now) (net g.lists)) }
+        ensures verdict { DeniesFirst (TableFault (rows t.now)) result }
+        ensures written { IfOk result (λ g. WritesNet (rows t.now) (net g.lists)) }
     {
         if is_short(t) {
             return Err(Denial::ShortTable);

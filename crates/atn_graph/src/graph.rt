@@ -1,7 +1,7 @@
 // Tables that keep every rule of a net but, perhaps, that no rule is left-recursive.
 ghost use Rattle.std.specs.Prelude.{◌≡◌, false};
 ghost use Rattle.atn_graph.specs.Net.{net, Runs};
-ghost use Rattle.atn_graph.specs.Rules.{Sound, beyond_limits};
+ghost use Rattle.atn_graph.specs.Rules.{IsSoundNet, beyond_limits};
 
 use crate::lists::Lists;
 
@@ -10,5 +10,5 @@ pub struct Graph {
     pub lists: Lists,
     ghost limits: { beyond_limits (net lists) ≡ false },
     ghost runs: { ∥ Runs (net lists) ∥₁ },
-    ghost sound: { ∥ Sound (net lists) ∥₁ },
+    ghost sound: { ∥ IsSoundNet (net lists) ∥₁ },
 }

@@ -6,7 +6,7 @@ ghost use Rattle.atn_graph.specs.declared.lists.Rule.{Rule as RuleStates};
 ghost use Rattle.atn_graph.specs.Reading.{IsCount, FirstRows, KindRead, StatesRead};
 ghost use Rattle.atn_graph.specs.Net.{Net, net};
 ghost use Rattle.atn_graph.specs.Tables.{rows, short_table, outside_limits};
-ghost use Rattle.atn_graph.specs.Written.{rule_row, WritesState, WritesEdge, Writes};
+ghost use Rattle.atn_graph.specs.Written.{rule_row, WritesState, WritesEdge, WritesNet};
 
 use crate::atn_state::{AtnState, StateKind};
 use crate::lists::{Lists, Rule};
@@ -128,7 +128,7 @@ fn read_states(rows: &[StateRow]) -> Option<FixedVec<AtnState, 512>>
 pub(crate) fn read(t: &Tables<'_>) -> Option<Lists>
     requires long { short_table (rows t.now) ≡ false }
     requires limits { outside_limits (rows t.now) ≡ false }
-    ensures { MatchOption result ((n : Net) → Writes (rows t.now) n → ⊥) (λ l. Writes (rows t.now) (net l)) }
+    ensures { MatchOption result ((n : Net) → WritesNet (rows t.now) n → ⊥) (λ l. WritesNet (rows t.now) (net l)) }
 {
     let counts = t.counts;
     Some(Lists {

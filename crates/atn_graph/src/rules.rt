@@ -2,7 +2,7 @@
 ghost use Rattle.std.specs.Prelude.{◌≡◌, Decides, MatchResult};
 ghost use Rattle.errors.specs.declared.denial.Denial.TheVariants.{BrokenRule};
 ghost use Rattle.atn_graph.specs.Net.{Runs, net, rule_at, state_at};
-ghost use Rattle.atn_graph.specs.Rules.{in_rule, range_fits, interval_fits, all_fit, set_fits, kind_fits, RuleFits, PlaceFits, Sound};
+ghost use Rattle.atn_graph.specs.Rules.{in_rule, range_fits, interval_fits, all_fit, set_fits, kind_fits, RuleFits, PlaceFits, IsSoundNet};
 
 use crate::atn_state::AtnState;
 use crate::lists::{Lists, Rule};
@@ -97,7 +97,7 @@ impl Lists {
     // Denied if a rule is broken.
     pub(crate) fn check_rules(&self) -> Result<(), Denial>
         requires { Runs (net self.now) }
-        ensures { MatchResult result (λ _. Sound (net self.now)) (λ d. (d ≡ BrokenRule) × (Sound (net self.now) → ⊥)) }
+        ensures { MatchResult result (λ _. IsSoundNet (net self.now)) (λ d. (d ≡ BrokenRule) × (IsSoundNet (net self.now) → ⊥)) }
     {
         for (r, rule) in self.rules.iter().enumerate() {
             if !self.rule_fits(r, *rule) {

@@ -9,7 +9,7 @@ use Rattle.errors.proofs.Firsts.{denies}
 use Rattle.atn_graph.specs.declared.atn_state.StateKind.{StateKind}
 use Rattle.atn_graph.specs.Net.{Net, size, state_at}
 use Rattle.atn.specs.Checked.{kind_of}
-use Rattle.ll1_analyzer.specs.Chains.{StateFault, ChainFault, Fault}
+use Rattle.ll1_analyzer.specs.Chains.{StateFault, ChainFault, QuestionFault}
 
 -- a denial that is handed on
 pub denied_as : {X : Type 0} (fault : Denial → Type 0) (r : Result X Denial) (d : Denial) → IsErrAnd r (λ e. e ≡ d) → First fault d → DeniesFirst fault r
@@ -39,7 +39,7 @@ no_state_fault n s l StateOutside f = omega (arith, l, f)
 no_state_fault n s l _ f = f
 
 -- a faulty chain comes before a state outside the net
-pub chain_first : (n : Net) (s : ℕ) (chain : List ℕ) (d : Denial) → First (ChainFault n chain) d → First (Fault n s chain) d
+pub chain_first : (n : Net) (s : ℕ) (chain : List ℕ) (d : Denial) → First (ChainFault n chain) d → First (QuestionFault n s chain) d
 chain_first n s chain d w = record { fits = inl w.fits; none_before = before }
   where
     late : (d e : Denial) → ChainFault n chain d → StateFault n s e → IsBefore e d → ⊥
@@ -47,18 +47,18 @@ chain_first n s chain d w = record { fits = inl w.fits; none_before = before }
     late FaultyChain _ f g l = g
     late _ e f g l = absurd f
 
-    before : (e : Denial) → IsBefore e d → Fault n s chain e → ⊥
+    before : (e : Denial) → IsBefore e d → QuestionFault n s chain e → ⊥
     before e l (inl f) = w.none_before e l f
     before e l (inr f) = late d e w.fits f l
 
 module _ (n : Net) (s : ℕ) (chain : List ℕ) (none : (d : Denial) → ChainFault n chain d → ⊥) where
-  pub state_first : size n ≤ s → First (Fault n s chain) StateOutside
+  pub state_first : size n ≤ s → First (QuestionFault n s chain) StateOutside
   state_first out = record { fits = inr out; none_before = before }
     where
-      before : (e : Denial) → IsBefore e StateOutside → Fault n s chain e → ⊥
+      before : (e : Denial) → IsBefore e StateOutside → QuestionFault n s chain e → ⊥
       before e l (inl f) = none e f
       before e l (inr f) = (outside_first n s out).none_before e l f
 
-  pub no_fault : s < size n → (d : Denial) → Fault n s chain d → ⊥
+  pub no_fault : s < size n → (d : Denial) → QuestionFault n s chain d → ⊥
   no_fault l d (inl f) = none d f
   no_fault l d (inr f) = no_state_fault n s l d f

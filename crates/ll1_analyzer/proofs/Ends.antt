@@ -1,41 +1,41 @@
--- How walks end, by the states that are reached and by the null states.
+-- How walks end, by the states that are reached and by the nullable states.
 use Rattle.std.proofs.Common.{◌≡◌, ℕ, ◌<◌, ◌≤◌, true, false, ◌⊎◌, List, [], ◌∷◌, ℤ, sym, refl, subst, inl, inr}
 use Rattle.std.proofs.lemmas.List.{get_or_past}
 use Rattle.std.proofs.lemmas.Bool.{both_ways, cases_lt}
 use Rattle.atn_graph.specs.Kinds.{is_stop}
 use Rattle.atn_graph.specs.Net.{Net, size, no_state}
 use Rattle.atn.specs.Walks.{Stop, Walk}
-use Rattle.atn.specs.Reach.{Null, Reaches}
+use Rattle.atn.specs.Reach.{Nullable, Reaches}
 use Rattle.atn.proofs.Some.{edge_state}
 use Rattle.atn.proofs.Decompose.{walk_over, visited_of_walk, walk_of_reaches}
 use Rattle.ll1_analyzer.specs.Sets.{EndsWith, EndsOnStop}
 use Rattle.atn.specs.Labels.{TakesAt}
 
 pub ends_of_reached : {n : Net} {s k : ℕ} (x : ℤ) → Reaches n s k → TakesAt n k x → EndsWith n s [] x
-ends_of_reached {k = k} x r t = let w = walk_of_reaches r [] in record { state = k; pile = w.0; walk = w.1; takes = t }
+ends_of_reached {k = k} x r t = let w = walk_of_reaches r [] in record { state = k; stack = w.0; walk = w.1; takes = t }
 
 pub reached_of_ends : {n : Net} {s : ℕ} (x : ℤ) (e : EndsWith n s [] x) → Reaches n s e.state
 reached_of_ends x e = visited_of_walk e.walk
 
--- every state of the pile is null
-abbrev pub AllNull : Net → List ℕ → Type 0
-AllNull n [] = Unit {0}
-AllNull n (f ∷ p) = Null n f × AllNull n p
+-- every state of the stack is nullable
+abbrev pub AllNullable : Net → List ℕ → Type 0
+AllNullable n [] = Unit {0}
+AllNullable n (f ∷ p) = Nullable n f × AllNullable n p
 
--- a walk that leaves nothing on the pile and ends on a stop state passes over null states alone
-pub nulls_of_walk : {n : Net} {s k : ℕ} {p q : List ℕ} → Walk n s p k q → q ≡ [] → Stop n k → Null n s × AllNull n p
-nulls_of_walk {n} {s} Walk.here e stop = (Null.stops stop, subst (AllNull n) (sym e) tt)
-nulls_of_walk (Walk.along e w) is stop = let u = nulls_of_walk w is stop in (Null.along e u.0, u.1)
-nulls_of_walk (Walk.call e w) is stop = let u = nulls_of_walk w is stop in (Null.over e u.0 u.1.0, u.1.1)
-nulls_of_walk (Walk.back e w) is stop = let u = nulls_of_walk w is stop in (Null.stops e, u)
+-- a walk that leaves nothing on the stack and ends on a stop state passes over nullable states alone
+pub nullables_of_walk : {n : Net} {s k : ℕ} {p q : List ℕ} → Walk n s p k q → q ≡ [] → Stop n k → Nullable n s × AllNullable n p
+nullables_of_walk {n} {s} Walk.here e stop = (Nullable.stops stop, subst (AllNullable n) (sym e) tt)
+nullables_of_walk (Walk.along e w) is stop = let u = nullables_of_walk w is stop in (Nullable.along e u.0, u.1)
+nullables_of_walk (Walk.call e w) is stop = let u = nullables_of_walk w is stop in (Nullable.over e u.0 u.1.0, u.1.1)
+nullables_of_walk (Walk.back e w) is stop = let u = nullables_of_walk w is stop in (Nullable.stops e, u)
 
-pub null_of_stop : {n : Net} {s : ℕ} → EndsOnStop n s [] → Null n s
-null_of_stop e = (nulls_of_walk e.walk refl e.stop).0
+pub nullable_of_stop : {n : Net} {s : ℕ} → EndsOnStop n s [] → Nullable n s
+nullable_of_stop e = (nullables_of_walk e.walk refl e.stop).0
 
-pub stop_of_null : {n : Net} {s : ℕ} → Null n s → (p : List ℕ) → (k : ℕ) × Walk n s p k p × Stop n k
-stop_of_null {s = s} (Null.stops e) p = (s, Walk.here, e)
-stop_of_null (Null.along e u) p = let w = stop_of_null u p in (w.0, Walk.along e w.1, w.2)
-stop_of_null (Null.over e u v) p = let w = stop_of_null v p in (w.0, Walk.call e (walk_over u w.1), w.2)
+pub stop_of_nullable : {n : Net} {s : ℕ} → Nullable n s → (p : List ℕ) → (k : ℕ) × Walk n s p k p × Stop n k
+stop_of_nullable {s = s} (Nullable.stops e) p = (s, Walk.here, e)
+stop_of_nullable (Nullable.along e u) p = let w = stop_of_nullable u p in (w.0, Walk.along e w.1, w.2)
+stop_of_nullable (Nullable.over e u v) p = let w = stop_of_nullable v p in (w.0, Walk.call e (walk_over u w.1), w.2)
 
 -- a state from which a walk goes anywhere is a state of the net
 pub takes_inside : {n : Net} {s k : ℕ} {p q : List ℕ} (x : ℤ) → Walk n s p k q → p ≡ [] → TakesAt n k x → s < size n
@@ -44,11 +44,11 @@ takes_inside {n} {s} x (Walk.along e w) is t = edge_state n s e.number e.of
 takes_inside {n} {s} x (Walk.call e w) is t = edge_state n s e.number e.of
 takes_inside x (Walk.back e w) is t = cc
 
-pub null_inside : {n : Net} {s : ℕ} → Null n s → s < size n
-null_inside {n} {s} (Null.stops e) = at (cases_lt s (size n))
+pub nullable_inside : {n : Net} {s : ℕ} → Nullable n s → s < size n
+nullable_inside {n} {s} (Nullable.stops e) = at (cases_lt s (size n))
   where
     at : (s < size n) ⊎ (size n ≤ s) → s < size n
     at (inl l) = l
     at (inr l) = absurd (both_ways false refl (subst (λ x. is_stop x.kind ≡ true) (get_or_past n.states s no_state l) e))
-null_inside {n} {s} (Null.along e u) = edge_state n s e.number e.of
-null_inside {n} {s} (Null.over e u v) = edge_state n s e.number e.of
+nullable_inside {n} {s} (Nullable.along e u) = edge_state n s e.number e.of
+nullable_inside {n} {s} (Nullable.over e u v) = edge_state n s e.number e.of

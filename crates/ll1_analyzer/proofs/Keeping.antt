@@ -5,11 +5,11 @@ use Rattle.interval_set.specs.declared.set.IntervalSet.{IntervalSet}
 use Rattle.atn_graph.specs.Net.{Net}
 use Rattle.ll1_analyzer.specs.Sets.{Within}
 use Rattle.atn.specs.declared.atn.Atn.{Atn}
-use Rattle.ll1_analyzer.specs.Answers.{HoldsExactly, Keeps}
+use Rattle.ll1_analyzer.specs.Answers.{HoldsExactly, KeepsNet}
 use Rattle.ll1_analyzer.specs.Kept.{AreFirst}
 
 -- one question after another
-pub keeps_both : {L : Type 0} {atn : L → Atn} {agrees : L → Type 0} {a b c : L} → Keeps atn agrees a b → Keeps atn agrees b c → Keeps atn agrees a c
+pub keeps_both : {L : Type 0} {atn : L → Atn} {agrees : L → Type 0} {a b c : L} → KeepsNet atn agrees a b → KeepsNet atn agrees b c → KeepsNet atn agrees a c
 keeps_both p q = record { net = q.net ∙ p.net; agreement = λ h. q.agreement (p.agreement h) }
 
 -- an element of a list with one more is one of the list, or the one more

@@ -8,12 +8,12 @@ use Rattle.interval_set.specs.Members.{intervals}
 use Rattle.interval_set.specs.declared.set.IntervalSet.{IntervalSet}
 use Rattle.interval_set.proofs.Rising.{between, inside_from}
 use Rattle.atn_graph.specs.Net.{Net, size}
-use Rattle.atn.specs.Reach.{Null, KnowsReachedOver}
+use Rattle.atn.specs.Reach.{Nullable, KnowsReachedOver}
 use Rattle.atn.proofs.Growth.{elem_at, place_of}
 use Rattle.ll1_analyzer.specs.Sets.{epsilon, EndsWith, Within}
 use Rattle.atn.specs.Labels.{TakesAt}
 use Rattle.ll1_analyzer.specs.Answers.{HoldsExactly}
-use Rattle.ll1_analyzer.proofs.Ends.{ends_of_reached, reached_of_ends, null_of_stop, stop_of_null, takes_inside, null_inside}
+use Rattle.ll1_analyzer.proofs.Ends.{ends_of_reached, reached_of_ends, nullable_of_stop, stop_of_nullable, takes_inside, nullable_inside}
 
 -- a test that decides a fact decides what is as much as that
 pub decides_like : {P Q : Type 0} (b : Bool) → (P → Q) → (Q → P) → Decides b P → Decides b Q
@@ -42,7 +42,7 @@ module _ (n : Net) (xs : List ℕ) (x : ℤ) where
       from t = at t (cases_eq t.place i)
 
   -- past the last state, that is how a walk ends
-  pub all_taken : (s : ℕ) (b : Bool) → KnowsReachedOver (Null n) n s xs → Decides b (TakenBefore n xs (length xs) x) → Decides b (EndsWith n s [] x)
+  pub all_taken : (s : ℕ) (b : Bool) → KnowsReachedOver (Nullable n) n s xs → Decides b (TakenBefore n xs (length xs) x) → Decides b (EndsWith n s [] x)
   all_taken s b known d = decides_like b to from d
     where
       to : TakenBefore n xs (length xs) x → EndsWith n s [] x
@@ -62,24 +62,24 @@ pub one : (v x : ℤ) → Decides (inside (from_to v v) x) (x ≡ v)
 one v x = (λ e. let b = between (from_to v v) x e in omega (arith, ints, b.low, b.high), λ e. inside_from (from_to v v) x (omega (arith, ints, e)) (omega (arith, ints, e)))
 
 module _ (n : Net) (s : ℕ) (x : ℤ) (b : Bool) (d : Decides b (EndsWith n s [] x)) where
-  -- EPSILON belongs to the set of a null state
-  pub with_epsilon : Null n s → Decides (b || inside (from_to epsilon epsilon) x) (Within n s x)
+  -- EPSILON belongs to the set of a nullable state
+  pub with_epsilon : Nullable n s → Decides (b || inside (from_to epsilon epsilon) x) (Within n s x)
   with_epsilon u = decides_like _ to from (Decides-or b _ d (one epsilon x))
     where
       to : EndsWith n s [] x ⊎ (x ≡ epsilon) → Within n s x
       to (inl e) = inl e
-      to (inr e) = let w = stop_of_null u [] in inr (e, record { state = w.0; walk = w.1; stop = w.2 })
+      to (inr e) = let w = stop_of_nullable u [] in inr (e, record { state = w.0; walk = w.1; stop = w.2 })
 
       from : Within n s x → EndsWith n s [] x ⊎ (x ≡ epsilon)
       from (inl e) = inl e
       from (inr e) = inr e.0
 
-  pub without_epsilon : (Null n s → ⊥) → Decides b (Within n s x)
+  pub without_epsilon : (Nullable n s → ⊥) → Decides b (Within n s x)
   without_epsilon never = decides_like b inl from d
     where
       from : Within n s x → EndsWith n s [] x
       from (inl e) = e
-      from (inr e) = absurd (never (null_of_stop e.1))
+      from (inr e) = absurd (never (nullable_of_stop e.1))
 
 -- the empty set is that of a state outside the net
 pub outside_empty : (n : Net) (s : ℕ) (set : IntervalSet) → intervals set ≡ [] → size n ≤ s → HoldsExactly set (Within n s)
@@ -87,4 +87,4 @@ outside_empty n s set e out x = (λ h. absurd (both_ways _ (ap (λ is. has is x)
   where
     none : Within n s x → ⊥
     none (inl w) = omega (arith, out, takes_inside x w.walk refl w.takes)
-    none (inr w) = omega (arith, out, null_inside (null_of_stop w.1))
+    none (inr w) = omega (arith, out, nullable_inside (nullable_of_stop w.1))

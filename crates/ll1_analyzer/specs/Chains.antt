@@ -40,5 +40,5 @@ abbrev pub ChainFault : Net → List ℕ → Denial → Type 0
 ChainFault n chain FaultyChain = Faulty n chain
 ChainFault n chain _ = ⊥
 
-abbrev pub Fault : Net → ℕ → List ℕ → Denial → Type 0
-Fault n s chain d = ChainFault n chain d ⊎ StateFault n s d
+abbrev pub QuestionFault : Net → ℕ → List ℕ → Denial → Type 0
+QuestionFault n s chain d = ChainFault n chain d ⊎ StateFault n s d

@@ -11,20 +11,20 @@ eof = negsuc 0
 abbrev pub epsilon : ℤ
 epsilon = negsuc 1
 
--- A walk from s on the pile p comes to a state that takes the type x.
+-- A walk from s on the stack p comes to a state that takes the type x.
 pub record EndsWith (n : Net) (s : ℕ) (p : List ℕ) (x : ℤ) : Type 0 where
   pub state : ℕ
-  pub pile : List ℕ
-  pub walk : Walk n s p state pile
+  pub stack : List ℕ
+  pub walk : Walk n s p state stack
   pub takes : TakesAt n state x
 
--- A walk from s on the pile p comes to a stop state with nothing left on the pile.
+-- A walk from s on the stack p comes to a stop state with nothing left on the stack.
 pub record EndsOnStop (n : Net) (s : ℕ) (p : List ℕ) : Type 0 where
   pub state : ℕ
   pub walk : Walk n s p state []
   pub stop : Stop n state
 
--- The within-rule set of s is two things: the types that walks on an empty pile can end with, and apart from them whether one
+-- The within-rule set of s is two things: the types that walks on an empty stack can end with, and apart from them whether one
 -- can end on a stop state.
 abbrev pub Types : Net → ℕ → ℤ → Type 0
 Types n s x = EndsWith n s [] x
@@ -36,7 +36,7 @@ CanEnd n s = EndsOnStop n s []
 abbrev pub Within : Net → ℕ → ℤ → Type 0
 Within n s x = Types n s x ⊎ ((x ≡ epsilon) × CanEnd n s)
 
--- The in-context set of s: walks begin with the follow states of the open rules piled, innermost on top; EOF stands for the end.
+-- The in-context set of s: walks begin with the follow states of the open rules stacked, innermost on top; EOF stands for the end.
 abbrev pub InContext : Net → ℕ → List ℕ → ℤ → Type 0
 InContext n s follows x = EndsWith n s follows x ⊎ ((x ≡ eof) × EndsOnStop n s follows)
 

@@ -2,7 +2,7 @@
 ghost use Rattle.std.specs.Prelude.{◌≡◌, ◌≢◌, ℕ, ◌%◌, length, Some, None, slice_index_or};
 ghost use Rattle.atn.specs.Checked.{net_of};
 ghost use Rattle.ll1_analyzer.specs.declared.slot.Slot.{Slot};
-ghost use Rattle.ll1_analyzer.specs.Answers.{HoldsExactly, Keeps};
+ghost use Rattle.ll1_analyzer.specs.Answers.{HoldsExactly, KeepsNet};
 ghost use Rattle.ll1_analyzer.specs.Kept.{SlotsWithin};
 ghost use Rattle.ll1_analyzer.specs.Sets.{Within};
 
@@ -43,7 +43,7 @@ impl<L: Lookahead> Lookahead for Cache<L> {
     // A set that its slot has is answered from there, and nothing is asked below; else the answer from
     // below takes the slot.
     fn within(&mut self, s: usize) -> IntervalSet
-        ensures keeps { Keeps ⟦<Cache<L> as Lookahead>⟧.atn ⟦<Cache<L> as Lookahead>⟧.agrees self.old self.new }
+        ensures keeps { KeepsNet ⟦<Cache<L> as Lookahead>⟧.atn ⟦<Cache<L> as Lookahead>⟧.agrees self.old self.new }
         ensures answers { ⟦<Cache<L> as Lookahead>⟧.agrees self.old → HoldsExactly result (Within (net_of (L.atn self.old.below)) s) }
         ensures hit { (slot : Slot) → slice_index_or self.old.slots (s % 16) None ≡ Some slot → slot.state ≡ s → (result ≡ slot.set) × (self.new ≡ self.old) }
         ensures keeps_answer { slice_index_or self.new.slots (s % 16) None ≡ Some (record { state = s; set = result }) }

@@ -3,7 +3,7 @@ ghost use Rattle.std.specs.Prelude.{◌≡◌};
 ghost use Rattle.atn.specs.declared.atn.Atn.{Atn};
 ghost use Rattle.atn.specs.Checked.{net_of, kind_of, kind_number, kind_number_at, start_of, start_number, start_number_at};
 ghost use Rattle.atn_graph.specs.Net.{state_at, edges_of};
-ghost use Rattle.ll1_analyzer.specs.Answers.{HoldsExactly, Keeps};
+ghost use Rattle.ll1_analyzer.specs.Answers.{HoldsExactly, KeepsNet};
 ghost use Rattle.ll1_analyzer.specs.Sets.{Within};
 
 use atn::atn::Atn;
@@ -30,7 +30,7 @@ pub trait Lookahead {
 
     // The within-rule set of s.
     fn within(&mut self, s: usize) -> IntervalSet
-        ensures keeps { Keeps atn agrees self.old self.new }
+        ensures keeps { KeepsNet atn agrees self.old self.new }
         ensures answers { agrees self.old → HoldsExactly result (Within (net_of (atn self.old)) s) };
 
     fn kind(&self, s: usize) -> Option<StateKind>

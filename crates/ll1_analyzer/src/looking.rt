@@ -2,14 +2,14 @@
 ghost use Rattle.std.specs.Prelude.{◌≡◌};
 ghost use Rattle.atn.specs.Checked.{net_of};
 ghost use Rattle.atn.specs.Found.{found};
-ghost use Rattle.atn.specs.Reach.{KnowsNull};
-ghost use Rattle.ll1_analyzer.specs.Answers.{HoldsExactly, Keeps};
+ghost use Rattle.atn.specs.Reach.{KnowsNullable};
+ghost use Rattle.ll1_analyzer.specs.Answers.{HoldsExactly, KeepsNet};
 ghost use Rattle.ll1_analyzer.specs.Sets.{Within};
 
 use crate::analyzer::LL1Analyzer;
 use crate::lookahead::{EPSILON, Lookahead};
 use atn::atn::Atn;
-use atn::nulls::NullStates;
+use atn::nullables::NullableStates;
 use interval_set::set::IntervalSet;
 
 impl<'a> LL1Analyzer<'a> {
@@ -19,21 +19,21 @@ impl<'a> LL1Analyzer<'a> {
     {
         LL1Analyzer {
             atn,
-            nulls: NullStates::of(&atn.graph),
+            nullables: NullableStates::of(&atn.graph),
         }
     }
 
-    // The within-rule set of s: the types at the states that it reaches, and EPSILON if it is null. That
-    // the null states are right is kept a premise: a ghost field would not give the walks that show it.
+    // The within-rule set of s: the types at the states that it reaches, and EPSILON if it is nullable. That
+    // the nullable states are right is kept a premise: a ghost field would not give the walks that show it.
     pub fn look(&self, s: usize) -> IntervalSet
-        ensures { KnowsNull (net_of self.now.atn.now) (found self.now.nulls.states) → HoldsExactly result (Within (net_of self.now.atn.now) s) }
+        ensures { KnowsNullable (net_of self.now.atn.now) (found self.now.nullables.states) → HoldsExactly result (Within (net_of self.now.atn.now) s) }
     {
         let mut set = IntervalSet::new();
-        let reached = self.nulls.reach(s);
+        let reached = self.nullables.reach(s);
         for k in reached.states() {
             self.atn.add_labels(*k, &mut set);
         }
-        if self.nulls.has(s) {
+        if self.nullables.has(s) {
             // it is one of the numbers of sets, so it is not denied
             let _ = set.add_one(EPSILON);
         }
@@ -44,14 +44,14 @@ impl<'a> LL1Analyzer<'a> {
 impl<'a> Lookahead for LL1Analyzer<'a> {
     ghost atn = { λ w. w.atn.now };
 
-    ghost agrees = { λ w. KnowsNull (net_of w.atn.now) (found w.nulls.states) };
+    ghost agrees = { λ w. KnowsNullable (net_of w.atn.now) (found w.nullables.states) };
 
     fn atn(&self) -> &Atn {
         self.atn
     }
 
     fn within(&mut self, s: usize) -> IntervalSet
-        ensures keeps { Keeps ⟦<LL1Analyzer<'a> as Lookahead>⟧.atn ⟦<LL1Analyzer<'a> as Lookahead>⟧.agrees self.old self.new }
+        ensures keeps { KeepsNet ⟦<LL1Analyzer<'a> as Lookahead>⟧.atn ⟦<LL1Analyzer<'a> as Lookahead>⟧.agrees self.old self.new }
         ensures answers { ⟦<LL1Analyzer<'a> as Lookahead>⟧.agrees self.old → HoldsExactly result (Within (net_of self.old.atn.now) s) }
         ensures alters_nothing { self.new ≡ self.old }
     {

@@ -2,8 +2,8 @@
 ghost use Rattle.std.specs.Prelude.{◌≡◌, ◌∷◌, IfOk, OnErr};
 ghost use Rattle.errors.specs.Denials.{DeniesFirst};
 ghost use Rattle.atn.specs.Checked.{net_of};
-ghost use Rattle.ll1_analyzer.specs.Answers.{HoldsExactly, Keeps};
-ghost use Rattle.ll1_analyzer.specs.Chains.{follow_states, StateFault, ChainFault, Fault};
+ghost use Rattle.ll1_analyzer.specs.Answers.{HoldsExactly, KeepsNet};
+ghost use Rattle.ll1_analyzer.specs.Chains.{follow_states, StateFault, ChainFault, QuestionFault};
 ghost use Rattle.ll1_analyzer.specs.Sets.{Within, InContext, Joined, Expected, Recovery};
 
 use crate::chain::follow_list;
@@ -13,7 +13,7 @@ use interval_set::set::IntervalSet;
 
 // The within-rule set of s.
 pub fn next_tokens<L: Lookahead>(l: &mut L, s: usize) -> Result<IntervalSet, Denial>
-    ensures keeps { Keeps L.atn L.agrees l.old l.new }
+    ensures keeps { KeepsNet L.atn L.agrees l.old l.new }
     ensures denied_alters_nothing { OnErr result (l.new ≡ l.old) }
     ensures verdict { DeniesFirst (StateFault (net_of (L.atn l.old)) s) result }
     ensures holds { L.agrees l.old → IfOk result (λ set. HoldsExactly set (Within (net_of (L.atn l.old)) s)) }
@@ -25,7 +25,7 @@ pub fn next_tokens<L: Lookahead>(l: &mut L, s: usize) -> Result<IntervalSet, Den
 // The within-rule sets of s and of the follow states in their order, as far as each holds EPSILON; EOF
 // if the last of all holds it.
 fn join<L: Lookahead>(l: &mut L, s: usize, follows: &[usize]) -> IntervalSet
-    ensures keeps { Keeps L.atn L.agrees l.old l.new }
+    ensures keeps { KeepsNet L.atn L.agrees l.old l.new }
     ensures joins { L.agrees l.old → HoldsExactly result (Joined (net_of (L.atn l.old)) (s ∷ follows.now)) }
 {
     let mut set = l.within(s);
@@ -50,9 +50,9 @@ pub fn get_expected_tokens<L: Lookahead>(
     s: usize,
     chain: &[usize],
 ) -> Result<IntervalSet, Denial>
-    ensures keeps { Keeps L.atn L.agrees l.old l.new }
+    ensures keeps { KeepsNet L.atn L.agrees l.old l.new }
     ensures denied_alters_nothing { OnErr result (l.new ≡ l.old) }
-    ensures verdict { DeniesFirst (Fault (net_of (L.atn l.old)) s chain.now) result }
+    ensures verdict { DeniesFirst (QuestionFault (net_of (L.atn l.old)) s chain.now) result }
     ensures holds { L.agrees l.old → let n = net_of (L.atn l.old) in
         IfOk result (λ set. HoldsExactly set (Expected n s (follow_states n chain.now))) }
 {
@@ -61,16 +61,16 @@ pub fn get_expected_tokens<L: Lookahead>(
     Ok(join(l, s, follows.as_slice()))
 }
 
-// The in-context set of s: walks that begin with the follow states piled end with the types that the
+// The in-context set of s: walks that begin with the follow states stacked end with the types that the
 // within-rule sets join to.
 pub fn next_tokens_in_ctx<L: Lookahead>(
     l: &mut L,
     s: usize,
     chain: &[usize],
 ) -> Result<IntervalSet, Denial>
-    ensures keeps { Keeps L.atn L.agrees l.old l.new }
+    ensures keeps { KeepsNet L.atn L.agrees l.old l.new }
     ensures denied_alters_nothing { OnErr result (l.new ≡ l.old) }
-    ensures verdict { DeniesFirst (Fault (net_of (L.atn l.old)) s chain.now) result }
+    ensures verdict { DeniesFirst (QuestionFault (net_of (L.atn l.old)) s chain.now) result }
     ensures holds { L.agrees l.old → let n = net_of (L.atn l.old) in
         IfOk result (λ set. HoldsExactly set (InContext n s (follow_states n chain.now))) }
 {
@@ -82,7 +82,7 @@ pub fn get_error_recovery_set<L: Lookahead>(
     l: &mut L,
     chain: &[usize],
 ) -> Result<IntervalSet, Denial>
-    ensures keeps { Keeps L.atn L.agrees l.old l.new }
+    ensures keeps { KeepsNet L.atn L.agrees l.old l.new }
     ensures denied_alters_nothing { OnErr result (l.new ≡ l.old) }
     ensures verdict { DeniesFirst (ChainFault (net_of (L.atn l.old)) chain.now) result }
     ensures holds { L.agrees l.old → let n = net_of (L.atn l.old) in

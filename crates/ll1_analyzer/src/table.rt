@@ -1,7 +1,7 @@
 // The table of all within-rule sets.
 ghost use Rattle.std.specs.Prelude.{◌≡◌, IfOk};
 ghost use Rattle.ll1_analyzer.specs.Kept.{AreWithin};
-ghost use Rattle.ll1_analyzer.specs.Answers.{HoldsExactly, Keeps};
+ghost use Rattle.ll1_analyzer.specs.Answers.{HoldsExactly, KeepsNet};
 ghost use Rattle.ll1_analyzer.specs.Sets.{Within};
 ghost use Rattle.atn.specs.Checked.{net_of};
 
@@ -19,7 +19,7 @@ pub struct Table<'a> {
 }
 
 impl<'a> Table<'a> {
-    // Want of memory is the only error.
+    // Lack of memory is the only error.
     pub fn new(alloc: Global, atn: &'a Atn) -> Result<Table<'a>, AllocError>
         ensures net { IfOk result (λ t. t.atn.now ≡ atn.now) }
         ensures agrees { IfOk result ⟦<Table<'a> as Lookahead>⟧.agrees }
@@ -44,7 +44,7 @@ impl<'a> Lookahead for Table<'a> {
     }
 
     fn within(&mut self, s: usize) -> IntervalSet
-        ensures keeps { Keeps ⟦<Table<'a> as Lookahead>⟧.atn ⟦<Table<'a> as Lookahead>⟧.agrees self.old self.new }
+        ensures keeps { KeepsNet ⟦<Table<'a> as Lookahead>⟧.atn ⟦<Table<'a> as Lookahead>⟧.agrees self.old self.new }
         ensures answers { ⟦<Table<'a> as Lookahead>⟧.agrees self.old → HoldsExactly result (Within (net_of self.old.atn.now) s) }
         ensures alters_nothing { self.new ≡ self.old }
     {

@@ -4,12 +4,12 @@ use Rattle.std.specs.List.{flat_map}
 use Rattle.std.proofs.lemmas.List.{take-append-drop}
 use Rattle.records.specs.declared.bounded_list.BoundedList.{BoundedList}
 use Rattle.records.specs.declared.leaf_writer.LeafWriter.{LeafWriter}
-use Rattle.records.specs.Lists.{listed, behind}
+use Rattle.records.specs.Lists.{listed, spare}
 use Rattle.records.specs.LeafLines.{leaf_line}
 use Rattle.records.specs.Writers.{unwritten, leaves_written}
 use Rattle.records.proofs.Texts.{leaves_lines}
 
-pub whole_list : {T : Type 0} (l : BoundedList T) → l.slots.now ≡ listed l ++ behind l
+pub whole_list : {T : Type 0} (l : BoundedList T) → l.slots.now ≡ listed l ++ spare l
 whole_list l = sym (take-append-drop l.len l.slots.now)
 
 pub whole_text : (w : LeafWriter) → w.memory.now ≡ flat_map leaf_line (leaves_written w) ++ unwritten w

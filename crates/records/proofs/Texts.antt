@@ -7,13 +7,13 @@ use Rattle.std.proofs.lemmas.List.{append-nil, length-append, length-take-le, dr
 use Rattle.std.proofs.lemmas.Slice.{take-put_mid, drop-put_mid}
 use Rattle.std.proofs.lemmas.List.Elements.{All-nil, All-push}
 use Rattle.records.specs.declared.leaf_writer.LeafWriter.{LeafWriter}
-use Rattle.records.specs.Leaves.{Said, LeafFits}
+use Rattle.records.specs.Leaves.{LeafFields, LeafFits}
 use Rattle.records.specs.LeafLines.{leaf_line, Written}
 use Rattle.records.specs.Lengths.{length_line}
 use Rattle.records.specs.Single.{lines_tell}
 use Rattle.records.specs.Writers.{text, unwritten, leaves_written}
 
-abbrev pub written_more : (old new : List ℕ) (l : Said) → Written old → LeafFits l → new ≡ old ++ leaf_line l → Written new
+abbrev pub written_more : (old new : List ℕ) (l : LeafFields) → Written old → LeafFits l → new ≡ old ++ leaf_line l → Written new
 written_more old new l w f e = record {
   leaves = w.leaves ++ l ∷ [];
   fit = All-push LeafFits w.leaves l w.fit f;
@@ -28,7 +28,7 @@ pub leaves_none : (w : LeafWriter) → text w ≡ [] → leaves_written w ≡ []
 unfolding leaves_written
 leaves_none w e = same_leaves w.written (record { leaves = []; fit = All-nil LeafFits; lines = e })
 
-pub leaves_more : (old new : LeafWriter) (l : Said) → LeafFits l → text new ≡ text old ++ leaf_line l → leaves_written new ≡ leaves_written old ++ l ∷ []
+pub leaves_more : (old new : LeafWriter) (l : LeafFields) → LeafFits l → text new ≡ text old ++ leaf_line l → leaves_written new ≡ leaves_written old ++ l ∷ []
 unfolding leaves_written
 leaves_more old new l f e = same_leaves new.written (written_more (text old) (text new) l old.written f e)
 
@@ -37,7 +37,7 @@ unfolding leaves_written
 leaves_lines w = w.written.lines
 
 -- The memory once a line was put behind the text.
-module _ (w : LeafWriter) (l : Said) (f : LeafFits l) (line : List ℕ) (e : line ≡ leaf_line l) where
+module _ (w : LeafWriter) (l : LeafFields) (f : LeafFits l) (line : List ℕ) (e : line ≡ leaf_line l) where
   abbrev end : ℕ
   end = w.len + 57
 
@@ -56,5 +56,5 @@ module _ (w : LeafWriter) (l : Said) (f : LeafFits l) (line : List ℕ) (e : lin
   pub end_put : end ≤ length memory
   end_put =
       let here : length (text w) ≡ w.len = length-take-le w.len w.memory.now w.few in
-      let behind : List ℕ = post_of w.len (end - w.len) w.memory.now in
-      omega (arith, here, long, length-append (text w) (line ++ behind), length-append line behind)
+      let spare : List ℕ = post_of w.len (end - w.len) w.memory.now in
+      omega (arith, here, long, length-append (text w) (line ++ spare), length-append line spare)

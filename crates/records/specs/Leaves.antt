@@ -12,7 +12,7 @@ leaf_number Terminal = 1
 leaf_number Error = 2
 
 -- All that a leaf says.
-pub record Said : Type 0 where
+pub record LeafFields : Type 0 where
   pub kind : LeafKind
   pub depth : ℕ
   pub rule : ℕ
@@ -22,7 +22,7 @@ pub record Said : Type 0 where
   pub column : ℕ
 
 -- Each field is within its limits.
-pub record LeafFits (l : Said) : Type 0 where
+pub record LeafFits (l : LeafFields) : Type 0 where
   pub some_open : 0 < l.depth
   pub depth : l.depth ≤ 64
   pub rule : l.rule ≤ 63

@@ -15,7 +15,7 @@ use Rattle.token.specs.declared.token_type.TokenType.TheVariants.{Eof, Of}
 use Rattle.token.specs.Tokens.{type_number, index_number}
 use Rattle.records.specs.declared.leaf.LeafKind.{LeafKind}
 use Rattle.records.specs.declared.leaf.LeafKind.TheVariants.{Terminal, Error}
-use Rattle.records.specs.Leaves.{Said, LeafFits, leaf_number}
+use Rattle.records.specs.Leaves.{LeafFields, LeafFits, leaf_number}
 use Rattle.records.specs.LeafLines.{column, numbers, leaf_line}
 
 -- a number that a leaf may have
@@ -49,7 +49,7 @@ index_small (Some k) h =
     let small : k ≤ 1000000 = omega (arith, few) in
     small
 
-pub all_small : (l : Said) → LeafFits l → All Small (numbers l)
+pub all_small : (l : LeafFields) → LeafFits l → All Small (numbers l)
 all_small l f =
     let depth : l.depth ≤ 1000000 = omega (arith, f.depth) in
     let rule : l.rule ≤ 1000000 = omega (arith, f.rule) in
@@ -77,6 +77,6 @@ length_pieces f k (x ∷ xs) all =
     let rest : length (flat_map f xs) ≡ k * length xs = length_pieces f k xs (λ i d l. all (suc i) d (omega (arith, l))) in
     length-append (f x) (flat_map f xs) ∙ ap₂ (λ a b. a + b) one rest ∙ add_comm k (k * length xs) ∙ sym (mul-suc k (length xs))
 
-pub length_line : (l : Said) → LeafFits l → length (leaf_line l) ≡ 57
+pub length_line : (l : LeafFields) → LeafFits l → length (leaf_line l) ≡ 57
 unfolding leaf_line
 length_line l f = length-append (flat_map column (numbers l)) (10 ∷ []) ∙ ap (λ k. k + 1) (length_pieces column 8 (numbers l) (λ i d h. length_column (get_or (numbers l) i d) (all_small l f i d h)))

@@ -7,5 +7,5 @@ abbrev pub listed : {T : Type 0} → BoundedList T → List T
 listed l = take l.len l.slots.now
 
 -- the free places, as they lie in the memory
-abbrev pub behind : {T : Type 0} → BoundedList T → List T
-behind l = drop l.len l.slots.now
+abbrev pub spare : {T : Type 0} → BoundedList T → List T
+spare l = drop l.len l.slots.now

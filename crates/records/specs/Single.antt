@@ -16,7 +16,7 @@ use Rattle.token.specs.declared.token_type.TokenType.TheVariants.{Eof, Of}
 use Rattle.token.specs.Tokens.{type_number, index_number}
 use Rattle.records.specs.declared.leaf.LeafKind.{LeafKind}
 use Rattle.records.specs.declared.leaf.LeafKind.TheVariants.{Terminal, Error}
-use Rattle.records.specs.Leaves.{Said, LeafFits, leaf_number}
+use Rattle.records.specs.Leaves.{LeafFields, LeafFits, leaf_number}
 use Rattle.records.specs.LeafLines.{column, numbers, leaf_line, Written}
 use Rattle.records.specs.Lengths.{Small, all_small, length_column, length_line}
 
@@ -83,7 +83,7 @@ natural : ℤ → ℕ
 natural (pos n) = n
 natural (negsuc n) = 0
 
-pub numbers_tell : (l m : Said) → numbers l ≡ numbers m → l ≡ m
+pub numbers_tell : (l m : LeafFields) → numbers l ≡ numbers m → l ≡ m
 numbers_tell l m e =
     let at : (k : ℕ) → get_or (numbers l) k (pos 0) ≡ get_or (numbers m) k (pos 0) = λ k. ap (λ ns. get_or ns k (pos 0)) e in
     λ i. record {
@@ -96,14 +96,14 @@ numbers_tell l m e =
       column = ap mag (at 6) i;
     }
 
-line_tells : (l m : Said) → LeafFits l → LeafFits m → leaf_line l ≡ leaf_line m → l ≡ m
+line_tells : (l m : LeafFields) → LeafFits l → LeafFits m → leaf_line l ≡ leaf_line m → l ≡ m
 unfolding leaf_line
 line_tells l m p q e = numbers_tell l m (pieces_tell Small column 8 (omega arith) length_column column_tells (numbers l) (numbers m) (all_small l p) (all_small m q) (append_cancel_right (flat_map column (numbers l)) (flat_map column (numbers m)) (10 ∷ []) e))
 
-pub lines_tell : (ls ms : List Said) → All LeafFits ls → All LeafFits ms → flat_map leaf_line ls ≡ flat_map leaf_line ms → ls ≡ ms
+pub lines_tell : (ls ms : List LeafFields) → All LeafFits ls → All LeafFits ms → flat_map leaf_line ls ≡ flat_map leaf_line ms → ls ≡ ms
 lines_tell = pieces_tell LeafFits leaf_line 57 (omega arith) length_line line_tells
 
-fits_prop : (l : Said) → IsProp (LeafFits l)
+fits_prop : (l : LeafFields) → IsProp (LeafFits l)
 fits_prop l a b i = record {
   some_open = le_prop a.some_open b.some_open i;
   depth = le_prop a.depth b.depth i;
@@ -114,7 +114,7 @@ fits_prop l a b i = record {
   column = le_prop a.column b.column i;
 }
 
-all_fit_prop : (ls : List Said) → IsProp (All LeafFits ls)
+all_fit_prop : (ls : List LeafFields) → IsProp (All LeafFits ls)
 all_fit_prop ls a b i k d l = fits_prop (get_or ls k d) (a k d l) (b k d l) i
 
 pub written_prop : (text : List ℕ) → IsProp (Written text)

@@ -1,7 +1,7 @@
 // Numbers in columns.
 ghost use Rattle.std.specs.Prelude.{◌≡◌, ◌≤◌, ◌++◌, length, drop};
 ghost use Rattle.std.specs.Fmt.{signed_decimal};
-ghost use Rattle.records.specs.Lists.{listed, behind};
+ghost use Rattle.records.specs.Lists.{listed, spare};
 ghost use Rattle.records.specs.Leaves.{LeafFits};
 ghost use Rattle.records.specs.LeafLines.{column, numbers, leaf_line};
 
@@ -39,11 +39,11 @@ fn numbers(leaf: Leaf) -> [i32; 7]
 
 // One line more.
 fn put_line(out: &mut BoundedList<u8>, leaf: Leaf)
-    requires { 57 ≤ length (behind out.old) }
+    requires { 57 ≤ length (spare out.old) }
     ensures fits { LeafFits leaf }
     ensures same_memory { out.new.slots.ghost_name ≡ out.old.slots.ghost_name }
     ensures line { listed out.new ≡ listed out.old ++ leaf_line leaf }
-    ensures untouched { behind out.new ≡ drop 57 (behind out.old) }
+    ensures untouched { spare out.new ≡ drop 57 (spare out.old) }
 {
     // there is room for each
     for n in numbers(leaf) {

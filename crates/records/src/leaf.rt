@@ -1,7 +1,7 @@
 // A leaf of the tree.
 ghost use Rattle.std.specs.Prelude.{◌≡◌, ◌<◌, ◌≤◌, MatchOption};
 ghost use Rattle.std.specs.Option.{ForSome};
-ghost use Rattle.records.specs.Leaves.{leaf_number, Said, LeafFits};
+ghost use Rattle.records.specs.Leaves.{leaf_number, LeafFields, LeafFits};
 
 use std::marker::Model;
 use token::token_type::TokenType;
@@ -33,9 +33,9 @@ pub struct Leaf {
 }
 
 impl Model for Leaf {
-    ghost use Rattle.records.specs.Leaves.{Said, LeafFits};
+    ghost use Rattle.records.specs.Leaves.{LeafFields, LeafFits};
 
-    ghost Value = { Said };
+    ghost Value = { LeafFields };
 
     ghost view = { λ l. record { kind = l.kind; depth = l.depth; rule = l.rule; typ = l.token_type; index = l.index; line = l.line; column = l.column } };
 
@@ -54,7 +54,7 @@ impl Leaf {
         index: Option<u16>,
         position: (u32, u32),
     ) -> Option<Leaf>
-        ensures { let said : Said = record { kind = kind; depth = depth; rule = rule; typ = «token_type»; index = index; line = position.0; column = position.1 } in MatchOption result (LeafFits said → ⊥) (λ l. LeafFits said × (l ≡ said)) }
+        ensures { let said : LeafFields = record { kind = kind; depth = depth; rule = rule; typ = «token_type»; index = index; line = position.0; column = position.1 } in MatchOption result (LeafFits said → ⊥) (λ l. LeafFits said × (l ≡ said)) }
     {
         let (line, column) = position;
         let fits = 0 < depth

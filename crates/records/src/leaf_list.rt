@@ -1,7 +1,7 @@
 // Lists of leaves.
 ghost use Rattle.std.specs.Prelude.{◌≡◌, ℕ, ◌<◌, List, [], ◌∷◌, Ok, Err};
 ghost use Rattle.std.specs.Borrow.{GName};
-ghost use Rattle.records.specs.Leaves.{Said};
+ghost use Rattle.records.specs.Leaves.{LeafFields};
 ghost use Rattle.records.specs.Adding.{Grown};
 
 use crate::leaf::Leaf;
@@ -10,7 +10,7 @@ use errors::denial::Denial;
 // Takes each leaf of the tree, in their order.
 pub trait LeafList {
     // its leaves, and how many more it can take
-    ghost leaves: { Self → List Said };
+    ghost leaves: { Self → List LeafFields };
 
     ghost free: { Self → ℕ };
 

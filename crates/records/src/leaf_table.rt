@@ -1,7 +1,7 @@
 // A table of leaves.
 ghost use Rattle.std.specs.Prelude.{length};
-ghost use Rattle.records.specs.Lists.{listed, behind};
-ghost use Rattle.records.specs.Leaves.{Said};
+ghost use Rattle.records.specs.Lists.{listed, spare};
+ghost use Rattle.records.specs.Leaves.{LeafFields};
 
 use crate::bounded_list::BoundedList;
 use crate::leaf::Leaf;
@@ -13,11 +13,11 @@ pub type LeafTable<'a> = BoundedList<'a, Leaf>;
 impl<'a> LeafList for LeafTable<'a> {
     ghost leaves = { listed };
 
-    ghost free = { λ t. length (behind t) };
+    ghost free = { λ t. length (spare t) };
 
-    ghost Place = { Said };
+    ghost Place = { LeafFields };
 
-    ghost rest = { behind };
+    ghost rest = { spare };
 
     ghost size = { 1 };
 

@@ -1,6 +1,6 @@
 // What a bounded list holds, and how it grows.
 ghost use Rattle.std.specs.Prelude.{◌≡◌, ◌<◌, ◌≤◌, ◌++◌, [], ◌∷◌, length, drop, Ok, Err};
-ghost use Rattle.records.specs.Lists.{listed, behind};
+ghost use Rattle.records.specs.Lists.{listed, spare};
 
 use crate::bounded_list::{BoundedList, Full};
 
@@ -8,7 +8,7 @@ impl<'a, T: Copy> BoundedList<'a, T> {
     pub fn new(slots: &'a mut [T]) -> BoundedList<'a, T>
         ensures same_memory { result.slots.ghost_name ≡ slots.entry.ghost_name }
         ensures empty { listed result ≡ [] }
-        ensures untouched { behind result ≡ slots.old }
+        ensures untouched { spare result ≡ slots.old }
     {
         BoundedList { slots, len: 0 }
     }
@@ -20,7 +20,7 @@ impl<'a, T: Copy> BoundedList<'a, T> {
     }
 
     pub fn free(&self) -> usize
-        ensures { result ≡ length (behind self.now) }
+        ensures { result ≡ length (spare self.now) }
     {
         self.slots.len() - self.len
     }
@@ -35,8 +35,8 @@ impl<'a, T: Copy> BoundedList<'a, T> {
     // One record more, in the next place.
     pub fn push(&mut self, x: T) -> Result<(), Full>
         ensures same_memory { self.new.slots.ghost_name ≡ self.old.slots.ghost_name }
-        ensures room { 0 < length (behind self.old) → (result ≡ Ok tt) × (listed self.new ≡ listed self.old ++ x ∷ []) × (behind self.new ≡ drop 1 (behind self.old)) }
-        ensures full { behind self.old ≡ [] → (result ≡ Err (record {})) × (self.new ≡ self.old) }
+        ensures room { 0 < length (spare self.old) → (result ≡ Ok tt) × (listed self.new ≡ listed self.old ++ x ∷ []) × (spare self.new ≡ drop 1 (spare self.old)) }
+        ensures full { spare self.old ≡ [] → (result ≡ Err (record {})) × (self.new ≡ self.old) }
     {
         if self.len == self.slots.len() {
             return Err(Full);
@@ -49,8 +49,8 @@ impl<'a, T: Copy> BoundedList<'a, T> {
     // All of the records, or none of them.
     pub fn extend_from_slice(&mut self, xs: &[T]) -> Result<(), Full>
         ensures same_memory { self.new.slots.ghost_name ≡ self.old.slots.ghost_name }
-        ensures room { length xs.now ≤ length (behind self.old) → (result ≡ Ok tt) × (listed self.new ≡ listed self.old ++ xs.now) × (behind self.new ≡ drop (length xs.now) (behind self.old)) }
-        ensures full { length (behind self.old) < length xs.now → (result ≡ Err (record {})) × (self.new ≡ self.old) }
+        ensures room { length xs.now ≤ length (spare self.old) → (result ≡ Ok tt) × (listed self.new ≡ listed self.old ++ xs.now) × (spare self.new ≡ drop (length xs.now) (spare self.old)) }
+        ensures full { length (spare self.old) < length xs.now → (result ≡ Err (record {})) × (self.new ≡ self.old) }
     {
         if self.free() < xs.len() {
             return Err(Full);

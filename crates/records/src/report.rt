@@ -28,7 +28,7 @@ impl ReportKind {
 #[derive(Clone, Copy, PartialEq, Eq, Debug)]
 pub struct Report {
     pub kind: ReportKind,
-    // the token's own index, none if it was made up
+    // the token's token index, none if it was made up
     pub index: Option<u16>,
     pub line: u32,
     pub column: u32,

@@ -3,7 +3,7 @@ use records::leaf::{Leaf, LeafKind};
 use std::test::*;
 use token::token_type::TokenType;
 
-// A leaf's depth, rule, own index, line and column.
+// A leaf's depth, rule, token index, line and column.
 type Fields = (u8, u8, Option<u16>, u32, u32);
 
 fn made(f: Fields) -> Option<Leaf> {

@@ -8,14 +8,14 @@ use Rattle.records.specs.declared.report.ReportKind.TheVariants.{NoViableAlterna
 use Rattle.records.specs.Heard.{Told}
 use Rattle.recovery_model.specs.declared.call.Call.{Call}
 use Rattle.recovery_model.specs.declared.open_rule.OpenRule.{OpenRule}
-use Rattle.recovery_model.specs.Calls.{Kept, Denied, Done, Left, Token}
+use Rattle.recovery_model.specs.Calls.{InputMismatch, Denied, Done, Left, Token}
 use Rattle.recovery_model.specs.Sets.{WithinSets, no_types}
 use Rattle.recovery_model.specs.Views.{View, current, own_pair}
-use Rattle.recovery_model.specs.Passing.{Searched, told_of, before, pass, pass_many, in_repair, begun, given, ended}
+use Rattle.recovery_model.specs.Passing.{Searched, told_of, before, pass, pass_many, in_error_recovery_mode, begin_error_condition, given, end_error_condition}
 use Rattle.recovery_model.specs.Outcomes.{Outcome, does, telling}
-use Rattle.recovery_model.specs.Repairs.{is_extra, is_missing, made_up, unwanted, missing, struck, inserted, mismatch_at, mismatches, takes, repairs, matched}
-use Rattle.recovery_model.specs.Syncs.{Choice, Begins, GoesBack, Neither, choice_here, may_come, may_be_nothing, stops_at, acts, syncs}
-use Rattle.recovery_model.specs.Recovering.{repeats, unstuck}
+use Rattle.recovery_model.specs.Repairs.{is_unwanted, is_missing, missing_symbol, unwanted_token, missing_token, single_token_deletion, single_token_insertion, mismatch_at, mismatches, take_token, recover_inline, matched}
+use Rattle.recovery_model.specs.Syncs.{Choice, Begins, GoesBack, Neither, choice_here, may_come, may_be_nothing, stops_at, acts, sync}
+use Rattle.recovery_model.specs.Recovering.{failsafe_applies, failsafe}
 use Rattle.recovery_model.specs.Denials.{denial, first_fault}
 use Rattle.recovery_model.specs.Steps.{left, mismatched, reporting, reports, accepted, step}
 
@@ -38,10 +38,10 @@ left_one v o os e = rw e refl
 abbrev of_kind : ℕ → View → Told
 of_kind k v = told_of (if k == 1 then NoViableAlternative else FailedPredicate) (current v) no_types
 
-reports_none : (n : Net) (w : WithinSets) (k : ℕ) (v : View) → v.kept ≡ None → reports n w k v ≡ (if k == 2 then does v Done else reporting (of_kind k v) v)
+reports_none : (n : Net) (w : WithinSets) (k : ℕ) (v : View) → v.input_mismatch ≡ None → reports n w k v ≡ (if k == 2 then does v Done else reporting (of_kind k v) v)
 reports_none n w k v e = rw e refl
 
-reports_kept : (n : Net) (w : WithinSets) (k : ℕ) (v : View) (m : Kept) → v.kept ≡ Some m → reports n w k v ≡ (if k == 2 then reporting (mismatched n w m) v else reporting (of_kind k v) v)
+reports_kept : (n : Net) (w : WithinSets) (k : ℕ) (v : View) (m : InputMismatch) → v.input_mismatch ≡ Some m → reports n w k v ≡ (if k == 2 then reporting (mismatched n w m) v else reporting (of_kind k v) v)
 reports_kept n w k v m e = rw e refl
 
 module _ (P : Outcome → Type 0) where
@@ -60,49 +60,49 @@ module _ (P : Outcome → Type 0) where
       at [] e = subst P (sym (left_none v e)) (none e)
       at (o ∷ os) e = subst P (sym (left_one v o os e)) (some o os e)
 
-  pub by_report : (n : Net) (w : WithinSets) (k : ℕ) (v : View) → (v.kept ≡ None → (k == 2) ≡ true → P (does v Done)) → ((t : Told) → P (reporting t v)) → P (reports n w k v)
-  by_report n w k v none some = at v.kept refl
+  pub by_report : (n : Net) (w : WithinSets) (k : ℕ) (v : View) → (v.input_mismatch ≡ None → (k == 2) ≡ true → P (does v Done)) → ((t : Told) → P (reporting t v)) → P (reports n w k v)
+  by_report n w k v none some = at v.input_mismatch refl
     where
-      at : (m : Option Kept) → v.kept ≡ m → P (reports n w k v)
+      at : (m : Option InputMismatch) → v.input_mismatch ≡ m → P (reports n w k v)
       at None e = subst P (sym (reports_none n w k v e)) (cond_both (k == 2) (does v Done) (reporting (of_kind k v) v) P (λ two. none e two) (λ _. some (of_kind k v)))
       at (Some m) e = subst P (sym (reports_kept n w k v m e)) (cond_both (k == 2) (reporting (mismatched n w m) v) (reporting (of_kind k v) v) P (λ _. some (mismatched n w m)) (λ _. some (of_kind k v)))
 
   pub by_match :
       (fit : Bool) (n : Net) (w : WithinSets) (v : View)
-      → (fit ≡ true → P (takes (ended v)))
-      → (is_extra n w v ≡ true → P (telling (given (unwanted n w v) v) (takes (struck v))))
-      → (is_missing n w v ≡ true → P (telling (given (missing n w v) v) (does (inserted n w v) (Token (made_up n w v)))))
-      → P (mismatches (mismatch_at (unwrap_or v.noted.saved (own_pair v)) v) v)
+      → (fit ≡ true → P (take_token (end_error_condition v)))
+      → (is_unwanted n w v ≡ true → P (telling (given (unwanted_token n w v) v) (take_token (single_token_deletion v))))
+      → (is_missing n w v ≡ true → P (telling (given (missing_token n w v) v) (does (single_token_insertion n w v) (Token (missing_symbol n w v)))))
+      → P (mismatches (mismatch_at (unwrap_or v.strategy.next_tokens (own_pair v)) v) v)
       → P (matched fit n w v)
   by_match fit n w v taken extra gone neither =
-      cond_both fit (takes (ended v)) (repairs n w v) P taken
-      (λ _. cond_both (is_extra n w v) (telling (given (unwanted n w v) v) (takes (struck v))) _ P extra
-      (λ _. cond_both (is_missing n w v) (telling (given (missing n w v) v) (does (inserted n w v) (Token (made_up n w v)))) _ P gone (λ _. neither)))
+      cond_both fit (take_token (end_error_condition v)) (recover_inline n w v) P taken
+      (λ _. cond_both (is_unwanted n w v) (telling (given (unwanted_token n w v) v) (take_token (single_token_deletion v))) _ P extra
+      (λ _. cond_both (is_missing n w v) (telling (given (missing_token n w v) v) (does (single_token_insertion n w v) (Token (missing_symbol n w v)))) _ P gone (λ _. neither)))
 
   pub by_acts :
       (c : Choice) (n : Net) (w : WithinSets) (v : View)
-      → (c ≡ Begins → is_extra n w v ≡ true → P (telling (given (unwanted n w v) v) (does (struck v) Done)))
+      → (c ≡ Begins → is_unwanted n w v ≡ true → P (telling (given (unwanted_token n w v) v) (does (single_token_deletion v) Done)))
       → (c ≡ Begins → P (mismatches (mismatch_at (own_pair v) v) v))
-      → (c ≡ GoesBack → P (telling (given (unwanted n w v) v) (does (pass_many Searched (before (stops_at n w v) v.shown) (begun v)) Done)))
+      → (c ≡ GoesBack → P (telling (given (unwanted_token n w v) v) (does (pass_many Searched (before (stops_at n w v) v.shown) (begin_error_condition v)) Done)))
       → (c ≡ Neither → P (does v Done))
       → P (acts c n w v)
   by_acts Begins n w v extra neither back none =
-      cond_both (is_extra n w v) (telling (given (unwanted n w v) v) (does (struck v) Done)) (mismatches (mismatch_at (own_pair v) v) v) P (extra refl) (λ _. neither refl)
+      cond_both (is_unwanted n w v) (telling (given (unwanted_token n w v) v) (does (single_token_deletion v) Done)) (mismatches (mismatch_at (own_pair v) v) v) P (extra refl) (λ _. neither refl)
   by_acts GoesBack n w v extra neither back none = back refl
   by_acts Neither n w v extra neither back none = none refl
 
   pub by_sync :
       (n : Net) (w : WithinSets) (v : View)
-      → (in_repair v ≡ true → P (does v Done))
-      → (may_come w v ≡ true → P (does (record v { noted = record v.noted { saved = None } }) Done))
-      → (may_be_nothing w v ≡ true → P (does (record v { noted = record v.noted { saved = Some (unwrap_or v.noted.saved (own_pair v)) } }) Done))
+      → (in_error_recovery_mode v ≡ true → P (does v Done))
+      → (may_come w v ≡ true → P (does (record v { strategy = record v.strategy { next_tokens = None } }) Done))
+      → (may_be_nothing w v ≡ true → P (does (record v { strategy = record v.strategy { next_tokens = Some (unwrap_or v.strategy.next_tokens (own_pair v)) } }) Done))
       → (may_come w v ≡ false → may_be_nothing w v ≡ false → P (acts (choice_here n v) n w v))
-      → P (syncs n w v)
-  by_sync n w v repairing come nothing act =
-      cond_both (in_repair v) (does v Done) _ P repairing
-      (λ _. cond_both (may_come w v) (does (record v { noted = record v.noted { saved = None } }) Done) _ P come
-      (λ e. cond_both (may_be_nothing w v) (does (record v { noted = record v.noted { saved = Some (unwrap_or v.noted.saved (own_pair v)) } }) Done) (acts (choice_here n v) n w v) P nothing (act e)))
+      → P (sync n w v)
+  by_sync n w v in_error_condition come nothing act =
+      cond_both (in_error_recovery_mode v) (does v Done) _ P in_error_condition
+      (λ _. cond_both (may_come w v) (does (record v { strategy = record v.strategy { next_tokens = None } }) Done) _ P come
+      (λ e. cond_both (may_be_nothing w v) (does (record v { strategy = record v.strategy { next_tokens = Some (unwrap_or v.strategy.next_tokens (own_pair v)) } }) Done) (acts (choice_here n v) n w v) P nothing (act e)))
 
--- the guard passes a token or none
-pub by_guard : (P : View → Type 0) (v : View) → (repeats v ≡ true → P (pass Searched v)) → (repeats v ≡ false → P v) → P (unstuck v)
-by_guard P v again first = cond_both (repeats v) (pass Searched v) v P again first
+-- the failsafe passes a token or none
+pub by_guard : (P : View → Type 0) (v : View) → (failsafe_applies v ≡ true → P (pass Searched v)) → (failsafe_applies v ≡ false → P v) → P (failsafe v)
+by_guard P v again first = cond_both (failsafe_applies v) (pass Searched v) v P again first

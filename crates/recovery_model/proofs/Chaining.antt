@@ -15,12 +15,12 @@ use Rattle.atn_graph.proofs.StateEdges.{edges_length, edge_number, number_of}
 use Rattle.atn_graph.proofs.Inside as inside
 use Rattle.atn.specs.declared.atn.Atn.{Atn}
 use Rattle.atn.specs.Checked.{net_of}
-use Rattle.ll1_analyzer.specs.Chains.{first_follow, follow_of, ChainFault, StateFault, Fault}
+use Rattle.ll1_analyzer.specs.Chains.{first_follow, follow_of, ChainFault, StateFault, QuestionFault}
 use Rattle.recovery_model.specs.declared.open_rule.OpenRule.{OpenRule}
-use Rattle.recovery_model.specs.Calls.{Kept}
+use Rattle.recovery_model.specs.Calls.{InputMismatch}
 use Rattle.recovery_model.specs.Views.{View, Pair, here, chain}
 use Rattle.recovery_model.specs.Repairs.{next_state}
-use Rattle.recovery_model.specs.Denials.{calls}
+use Rattle.recovery_model.specs.Denials.{first_calls}
 use Rattle.recovery_model.specs.Coherent.{is_in, is_invoked, stands, is_sound_chain, is_sound_pair, is_sound_saved, is_sound_kept, Coherent, NeverDenied}
 use Rattle.recovery_model.proofs.Fitting.{Fit, fit_of}
 
@@ -46,7 +46,7 @@ inside_of n r None e = cc
 inside_of n r (Some s) e = ltb-true s (size n) (and_parts (nat_lt s (size n)) ((state_at n s).rule == r) e).0
 
 -- a state that calls a rule has a follow state
-called_follow : (r : ℕ) (es : List Transition) → calls r es ≡ true → is_some (first_follow es) ≡ true
+called_follow : (r : ℕ) (es : List Transition) → first_calls r es ≡ true → is_some (first_follow es) ≡ true
 called_follow r [] e = e
 called_follow r (x ∷ es) e = at x.kind refl
   where
@@ -75,7 +75,7 @@ all_call n state (o ∷ os) e = at o.invoking refl (all_call n o.invoking os (st
     at : (i : Option ℕ) → o.invoking ≡ i → list_all (follows_on n) (chain_of os) ≡ true → list_all (follows_on n) (option_to_list o.invoking ++ chain_of os) ≡ true
     at None h rest = subst (λ j. list_all (follows_on n) (option_to_list j ++ chain_of os) ≡ true) (sym h) rest
     at (Some k) h rest =
-        let called : calls o.rule (edges_of n k) ≡ true = subst (λ j. is_invoked n o.rule j ≡ true) h (stood n state o os e).invoked in
+        let called : first_calls o.rule (edges_of n k) ≡ true = subst (λ j. is_invoked n o.rule j ≡ true) h (stood n state o os e).invoked in
         subst (λ j. list_all (follows_on n) (option_to_list j ++ chain_of os) ≡ true) (sym h) (and_from (follows_on n k) _ (called_follow o.rule (edges_of n k) called) rest)
 
 added_few : (i : Option ℕ) → length (option_to_list i) ≤ 1
@@ -115,12 +115,12 @@ no_chain_fault n ss e FaultyChain (inr bad) =
     all_at n ss (and_parts (nat_le (length ss) 63) _ e).1 bad.0 bad.2 (ap (follow_of n) (get_or_default ss bad.0 0 bad.1 bad.2 ∙ bad.3) ∙ bad.4)
 no_chain_fault n ss e _ f = f
 
-pub no_fault : (n : Net) (s : ℕ) (ss : List ℕ) → s < size n → is_sound_chain n ss ≡ true → (d : Denial) → Fault n s ss d → ⊥
+pub no_fault : (n : Net) (s : ℕ) (ss : List ℕ) → s < size n → is_sound_chain n ss ≡ true → (d : Denial) → QuestionFault n s ss d → ⊥
 no_fault n s ss l e d (inl f) = no_chain_fault n ss e d f
 no_fault n s ss l e StateOutside (inr f) = omega (arith, l, f)
 no_fault n s ss l e _ (inr f) = f
 
-pub no_pair_fault : (n : Net) (s : ℕ) (ss : List ℕ) → is_sound_pair n s ss ≡ true → (d : Denial) → Fault n s ss d → ⊥
+pub no_pair_fault : (n : Net) (s : ℕ) (ss : List ℕ) → is_sound_pair n s ss ≡ true → (d : Denial) → QuestionFault n s ss d → ⊥
 no_pair_fault n s ss e =
     let p = and_parts (nat_lt s (size n)) (is_sound_chain n ss) e in
     no_fault n s ss (ltb-true s (size n) p.0) p.1
@@ -150,11 +150,11 @@ target_inside a s =
 pub never_denied : (a : Atn) (v : View) → Coherent (net_of a) v → NeverDenied (net_of a) v
 never_denied a v c =
     let n = net_of a in
-    let sound : is_sound_chain n (chain v) ≡ true = chain_sound n v.state v.open_rules c.stands c.few_open in
+    let sound : is_sound_chain n (chain v) ≡ true = chain_sound n v.state v.open_rules c.stands c.open_bounded in
     record {
       at_state = λ some. no_fault n (here v) (chain v) (stands_inside n v.state v.open_rules c.stands some) sound;
       at_next = no_fault n (next_state n (here v)) (chain v) (target_inside a (here v)) sound;
       at_open_rules = no_chain_fault n (chain v) sound;
       at_saved = λ p e. no_pair_fault n p.state p.chain (subst (λ o. is_sound_saved n o ≡ true) e c.saved);
-      at_kept = λ m e. no_pair_fault n m.state m.chain (subst (λ o. is_sound_kept n o ≡ true) e c.kept);
+      at_kept = λ m e. no_pair_fault n m.state m.chain (subst (λ o. is_sound_kept n o ≡ true) e c.input_mismatch);
     }

@@ -12,7 +12,7 @@ use Rattle.atn.specs.declared.atn.Atn.{Atn}
 use Rattle.atn.specs.Checked.{net_of}
 use Rattle.records.specs.declared.leaf.LeafKind.{LeafKind}
 use Rattle.records.specs.declared.leaf.LeafKind.TheVariants.{Error}
-use Rattle.token.specs.Tokens.{Fields, own}
+use Rattle.token.specs.Tokens.{Fields, token_index}
 use Rattle.token_stream.specs.Tapes.{no_token, token_at}
 use Rattle.token_stream.specs.Streams.{Named, Shows}
 use Rattle.recovery_model.specs.declared.call.Call.{Call}
@@ -20,13 +20,13 @@ use Rattle.recovery_model.specs.declared.call.Call.TheVariants.{State, Enter, Le
 use Rattle.recovery_model.specs.declared.open_rule.OpenRule.{OpenRule}
 use Rattle.recovery_model.specs.Calls.{Done, Left, fits}
 use Rattle.recovery_model.specs.Sets.{WithinSets}
-use Rattle.recovery_model.specs.Views.{View, Pair, here, ahead, chain, own_pair, no_marks}
-use Rattle.recovery_model.specs.Passing.{Reason, Taken, Deleted, Searched, innermost, raised, add, pass, pass_many, before, begun, ended}
+use Rattle.recovery_model.specs.Views.{View, Pair, here, ahead, chain, own_pair, no_error_states}
+use Rattle.recovery_model.specs.Passing.{Reason, Taken, Deleted, Searched, innermost, raised, add, pass, pass_many, before, begin_error_condition, end_error_condition}
 use Rattle.recovery_model.specs.Outcomes.{Outcome, does}
-use Rattle.recovery_model.specs.Repairs.{made_up, struck, mismatch_at, mismatches, match_leaves, matched}
-use Rattle.recovery_model.specs.Syncs.{choice_here, stops_at, sync_leaves, is_misplaced, acts, syncs}
-use Rattle.recovery_model.specs.Recovering.{unstuck, searching, search_length, recover_leaves, recovers}
-use Rattle.recovery_model.specs.Denials.{denial, none_open, is_elsewhere, is_called, is_type, too_few}
+use Rattle.recovery_model.specs.Repairs.{missing_symbol, single_token_deletion, mismatch_at, mismatches, match_leaves, matched}
+use Rattle.recovery_model.specs.Syncs.{choice_here, stops_at, sync_leaves, is_misplaced, acts, sync}
+use Rattle.recovery_model.specs.Recovering.{failsafe, searching, search_length, recover_leaves, recover}
+use Rattle.recovery_model.specs.Denials.{denial, none_open, is_elsewhere, is_called, is_token_type, too_few}
 use Rattle.recovery_model.specs.Steps.{entered, left, reports, accepted, step}
 use Rattle.recovery_model.specs.TapeLaw.{New}
 use Rattle.recovery_model.specs.Coherent.{is_in, is_invoked, stands, is_sound_pair, is_sound_saved, is_sound_kept, Coherent}
@@ -53,21 +53,21 @@ some_open v e = at v.open_rules e
 
 -- A view in which the parser stands as before and keeps the same pairs, with what is left of what was shown.
 record Like (n : Net) (v u : View) : Type 0 where
-  few_open : length u.open_rules ≡ length v.open_rules
+  open_bounded : length u.open_rules ≡ length v.open_rules
   stands : stands n u.state u.open_rules ≡ stands n v.state v.open_rules
-  saved : u.noted.saved ≡ v.noted.saved
-  kept : u.kept ≡ v.kept
-  marks : length v.noted.marks ≡ 512 → length u.noted.marks ≡ 512
+  saved : u.strategy.next_tokens ≡ v.strategy.next_tokens
+  input_mismatch : u.input_mismatch ≡ v.input_mismatch
+  marks : length v.strategy.last_error_states ≡ 512 → length u.strategy.last_error_states ≡ 512
   tape : u.tape ≡ v.tape
   onward : Onward v.shown u.shown
 
 module _ (n : Net) where
   like_coherent : (v u : View) → Coherent n v → Like n v u → Coherent n u
   like_coherent v u c l = record {
-    few_open = subst (λ k. k ≤ 64) (sym l.few_open) c.few_open;
+    open_bounded = subst (λ k. k ≤ 64) (sym l.open_bounded) c.open_bounded;
     stands = l.stands ∙ c.stands;
     saved = ap (is_sound_saved n) l.saved ∙ c.saved;
-    kept = ap (is_sound_kept n) l.kept ∙ c.kept;
+    input_mismatch = ap (is_sound_kept n) l.input_mismatch ∙ c.input_mismatch;
     marks = l.marks c.marks;
     shows = subst (λ t. Shows t u.shown) (sym l.tape) (shows_onward v.tape v.shown u.shown c.shows l.onward);
   }
@@ -85,10 +85,10 @@ module _ (n : Net) where
 
   like_pass : (why : Reason) (v : View) → Coherent n v → Like n v (pass why v)
   like_pass why v c = record {
-    few_open = raised_few v.open_rules;
+    open_bounded = raised_few v.open_rules;
     stands = raised_stands v.state v.open_rules;
     saved = refl;
-    kept = refl;
+    input_mismatch = refl;
     marks = λ e. e;
     tape = refl;
     onward = passed_onward v.shown c.shows.ends;
@@ -103,40 +103,40 @@ module _ (n : Net) where
 
   after_add : (kind : LeafKind) (t : Fields) (v : View) → Coherent n v → Coherent n (add kind t v)
   after_add kind t v c = like_coherent v (add kind t v) c (record {
-    few_open = raised_few v.open_rules;
+    open_bounded = raised_few v.open_rules;
     stands = raised_stands v.state v.open_rules;
     saved = refl;
-    kept = refl;
+    input_mismatch = refl;
     marks = λ e. e;
     tape = refl;
     onward = still v c;
   })
 
-  after_begun : (v : View) → Coherent n v → Coherent n (begun v)
-  after_begun v c = like_coherent v (begun v) c (record { few_open = refl; stands = refl; saved = refl; kept = refl; marks = λ e. e; tape = refl; onward = still v c })
+  after_begun : (v : View) → Coherent n v → Coherent n (begin_error_condition v)
+  after_begun v c = like_coherent v (begin_error_condition v) c (record { open_bounded = refl; stands = refl; saved = refl; input_mismatch = refl; marks = λ e. e; tape = refl; onward = still v c })
 
-  after_ended : (v : View) → Coherent n v → Coherent n (ended v)
-  after_ended v c = like_coherent v (ended v) c (record { few_open = refl; stands = refl; saved = refl; kept = refl; marks = λ e. length-replicate 512 false; tape = refl; onward = still v c })
+  after_ended : (v : View) → Coherent n v → Coherent n (end_error_condition v)
+  after_ended v c = like_coherent v (end_error_condition v) c (record { open_bounded = refl; stands = refl; saved = refl; input_mismatch = refl; marks = λ e. length-replicate 512 false; tape = refl; onward = still v c })
 
   after_searching : (v : View) → Coherent n v → Coherent n (searching v)
-  after_searching v c = like_coherent v (searching v) c (record { few_open = refl; stands = refl; saved = refl; kept = refl; marks = λ e. length-set v.noted.marks (here v) true ∙ e; tape = refl; onward = still v c })
+  after_searching v c = like_coherent v (searching v) c (record { open_bounded = refl; stands = refl; saved = refl; input_mismatch = refl; marks = λ e. length-set v.strategy.last_error_states (here v) true ∙ e; tape = refl; onward = still v c })
 
-  after_struck : (v : View) → Coherent n v → Coherent n (struck v)
-  after_struck v c = after_ended (pass Deleted (begun v)) (after_pass Deleted (begun v) (after_begun v c))
+  after_struck : (v : View) → Coherent n v → Coherent n (single_token_deletion v)
+  after_struck v c = after_ended (pass Deleted (begin_error_condition v)) (after_pass Deleted (begin_error_condition v) (after_begun v c))
 
   -- where the parser stands is a sound pair
   own_sound : (v : View) → Coherent n v → 0 < length v.open_rules → is_sound_pair n (here v) (chain v) ≡ true
-  own_sound v c some = and_from _ _ (lt-ltb (here v) (size n) (stands_inside n v.state v.open_rules c.stands some)) (chain_sound n v.state v.open_rules c.stands c.few_open)
+  own_sound v c some = and_from _ _ (lt-ltb (here v) (size n) (stands_inside n v.state v.open_rules c.stands some)) (chain_sound n v.state v.open_rules c.stands c.open_bounded)
 
-  either_sound : (v : View) → Coherent n v → 0 < length v.open_rules → let p = unwrap_or v.noted.saved (own_pair v) in is_sound_pair n p.state p.chain ≡ true
-  either_sound v c some = at v.noted.saved c.saved
+  either_sound : (v : View) → Coherent n v → 0 < length v.open_rules → let p = unwrap_or v.strategy.next_tokens (own_pair v) in is_sound_pair n p.state p.chain ≡ true
+  either_sound v c some = at v.strategy.next_tokens c.saved
     where
       at : (o : Option Pair) → is_sound_saved n o ≡ true → is_sound_pair n (unwrap_or o (own_pair v)).state (unwrap_or o (own_pair v)).chain ≡ true
       at None e = own_sound v c some
       at (Some p) e = e
 
   after_mismatch : (v : View) (p : Pair) → Coherent n v → is_sound_pair n p.state p.chain ≡ true → Coherent n (mismatches (mismatch_at p v) v).view
-  after_mismatch v p c e = record { few_open = c.few_open; stands = c.stands; saved = c.saved; kept = e; marks = c.marks; shows = c.shows }
+  after_mismatch v p c e = record { open_bounded = c.open_bounded; stands = c.stands; saved = c.saved; input_mismatch = e; marks = c.marks; shows = c.shows }
 
   abbrev Does : Outcome → Type 0
   Does o = Coherent n o.view
@@ -146,47 +146,47 @@ module _ (n : Net) where
     after_match : (fit : Bool) → 0 < length v.open_rules → Does (matched fit n w v)
     after_match fit some =
         by_match Does fit n w v
-        (λ _. after_pass Taken (ended v) (after_ended v c))
-        (λ _. after_pass Taken (struck v) (after_struck v c))
-        (λ _. after_add Error (made_up n w v) (begun v) (after_begun v c))
-        (after_mismatch v (unwrap_or v.noted.saved (own_pair v)) c (either_sound v c some))
+        (λ _. after_pass Taken (end_error_condition v) (after_ended v c))
+        (λ _. after_pass Taken (single_token_deletion v) (after_struck v c))
+        (λ _. after_add Error (missing_symbol n w v) (begin_error_condition v) (after_begun v c))
+        (after_mismatch v (unwrap_or v.strategy.next_tokens (own_pair v)) c (either_sound v c some))
 
-    after_sync : 0 < length v.open_rules → Does (syncs n w v)
+    after_sync : 0 < length v.open_rules → Does (sync n w v)
     after_sync some =
         by_sync Does n w v
         (λ _. c)
-        (λ _. record { few_open = c.few_open; stands = c.stands; saved = refl; kept = c.kept; marks = c.marks; shows = c.shows })
-        (λ _. record { few_open = c.few_open; stands = c.stands; saved = either_sound v c some; kept = c.kept; marks = c.marks; shows = c.shows })
+        (λ _. record { open_bounded = c.open_bounded; stands = c.stands; saved = refl; input_mismatch = c.input_mismatch; marks = c.marks; shows = c.shows })
+        (λ _. record { open_bounded = c.open_bounded; stands = c.stands; saved = either_sound v c some; input_mismatch = c.input_mismatch; marks = c.marks; shows = c.shows })
         (λ _ _. by_acts Does (choice_here n v) n w v
         (λ _ _. after_struck v c)
         (λ _. after_mismatch v (own_pair v) c (own_sound v c some))
-        (λ _. after_many Searched (before (stops_at n w v) v.shown) (begun v) (after_begun v c))
+        (λ _. after_many Searched (before (stops_at n w v) v.shown) (begin_error_condition v) (after_begun v c))
         (λ _. c))
 
     after_report : (k : ℕ) → Does (reports n w k v)
     after_report k = by_report Does n w k v (λ _ _. c) (λ t. after_begun v c)
 
-    after_recover : Does (recovers n w v)
+    after_recover : Does (recover n w v)
     after_recover =
-        let u = searching (unstuck v) in
-        after_many Searched (search_length n w u) u (after_searching (unstuck v) (by_guard (Coherent n) v (λ _. after_pass Searched v c) (λ _. c)))
+        let u = searching (failsafe v) in
+        after_many Searched (search_length n w u) u (after_searching (failsafe v) (by_guard (Coherent n) v (λ _. after_pass Searched v c) (λ _. c)))
 
     after_leave : Does (left v)
     after_leave = by_left Does v (λ _. c) (λ o os e. closed o os e)
       where
         closed : (o : OpenRule) (os : List OpenRule) → v.open_rules ≡ o ∷ os → Coherent n (record v { state = o.invoking; open_rules = os })
         closed o os e = record {
-          few_open = omega (arith, ap length e, c.few_open);
+          open_bounded = omega (arith, ap length e, c.open_bounded);
           stands = (stood n v.state o os (subst (λ rs. stands n v.state rs ≡ true) e c.stands)).below;
           saved = c.saved;
-          kept = c.kept;
+          input_mismatch = c.input_mismatch;
           marks = c.marks;
           shows = c.shows;
         }
 
     -- a state of the innermost rule
     after_state : (s : ℕ) → none_open v ≡ false → is_elsewhere n s v ≡ false → Coherent n (record v { state = Some s })
-    after_state s open_is here_is = record { few_open = c.few_open; stands = at v.open_rules refl; saved = c.saved; kept = c.kept; marks = c.marks; shows = c.shows }
+    after_state s open_is here_is = record { open_bounded = c.open_bounded; stands = at v.open_rules refl; saved = c.saved; input_mismatch = c.input_mismatch; marks = c.marks; shows = c.shows }
       where
         p : (not (nat_lt s (size n)) ≡ false) × (not ((state_at n s).rule == innermost v.open_rules) ≡ false)
         p = or_parts (not (nat_lt s (size n))) _ (or_parts _ (is_stop (state_at n s).kind) here_is).0
@@ -206,10 +206,10 @@ module _ (a : Atn) (w : WithinSets) (v : View) (c : Coherent (net_of a) v) where
 
   after_enter : (r : ℕ) → r < length n.rules → (none_open v ≡ false → is_called n r v ≡ true) → (length v.open_rules == 64) ≡ false → Coherent n (entered n r v)
   after_enter r known called some = record {
-    few_open = omega (arith, c.few_open, few);
+    open_bounded = omega (arith, c.open_bounded, few);
     stands = and_from _ _ (and_from _ _ (lt-ltb r (length n.rules) known) ((sound_of a.graph).rules r known).start) (and_from _ _ (invoked v.state v.open_rules refl refl c.stands) c.stands);
     saved = c.saved;
-    kept = c.kept;
+    input_mismatch = c.input_mismatch;
     marks = c.marks;
     shows = c.shows;
   }
@@ -240,7 +240,7 @@ module _ (a : Atn) (w : WithinSets) (v : View) (c : Coherent (net_of a) v) where
   after_accepted Leave none = after_leave n w v c
   after_accepted (Match t) none =
       let rest = (NoRuleOpen, none_open v) ∷ (NoLeafFree, too_few (match_leaves (fits (Match t) (ahead v 1)) n w v) v) ∷ [] in
-      let f = no_first (OutsideLimits, not (is_type t)) rest none in
+      let f = no_first (OutsideLimits, not (is_token_type t)) rest none in
       after_match n w v c (fits (Match t) (ahead v 1)) (some_open v (no_first (NoRuleOpen, none_open v) ((NoLeafFree, too_few (match_leaves (fits (Match t) (ahead v 1)) n w v) v) ∷ []) f.1).0)
   after_accepted Wildcard none =
       after_match n w v c (fits Wildcard (ahead v 1)) (some_open v (no_first (NoRuleOpen, none_open v) ((NoLeafFree, too_few (match_leaves (fits Wildcard (ahead v 1)) n w v) v) ∷ []) none).0)
@@ -254,10 +254,10 @@ module _ (a : Atn) (w : WithinSets) (v : View) (c : Coherent (net_of a) v) where
 
 pub new_coherent : (n : Net) (v : View) → New v → Coherent n v
 new_coherent n v new = record {
-  few_open = omega (arith, ap length new.none_open);
+  open_bounded = omega (arith, ap length new.none_open);
   stands = subst (λ s. stands n s v.open_rules ≡ true) (sym new.state) (subst (λ os. stands n None os ≡ true) (sym new.none_open) refl);
-  saved = ap (λ m. is_sound_saved n m.saved) new.noted;
-  kept = ap (is_sound_kept n) new.kept;
-  marks = ap (λ m. length m.marks) new.noted ∙ length-replicate 512 false;
+  saved = ap (λ m. is_sound_saved n m.next_tokens) new.strategy;
+  input_mismatch = ap (is_sound_kept n) new.input_mismatch;
+  marks = ap (λ m. length m.last_error_states) new.strategy ∙ length-replicate 512 false;
   shows = new.shows;
 }

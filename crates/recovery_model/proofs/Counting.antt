@@ -4,16 +4,16 @@ use Rattle.std.proofs.lemmas.Bool.{cond_both, cond-true, cond-false, and_left, a
 use Rattle.std.proofs.lemmas.List.{get_or-append-add, length-append}
 use Rattle.std.proofs.lemmas.List.Sums.{sum_by-cons}
 use Rattle.atn_graph.specs.Net.{Net, size}
-use Rattle.token.specs.Tokens.{Fields, is_eof, own}
+use Rattle.token.specs.Tokens.{Fields, is_eof, token_index}
 use Rattle.token_stream.specs.Tapes.{no_token, token_at}
 use Rattle.token_stream.specs.Streams.{Shows}
 use Rattle.recovery_model.specs.declared.call.Call.{Call}
 use Rattle.recovery_model.specs.Sets.{WithinSets}
-use Rattle.recovery_model.specs.Views.{View, current, place, nothing_noted}
+use Rattle.recovery_model.specs.Views.{View, current, place, new_strategy_state}
 use Rattle.recovery_model.specs.Steps.{step}
-use Rattle.recovery_model.specs.Journals.{Happened, happens, journal}
-use Rattle.recovery_model.specs.Histories.{present, next_place, ends_repair, is_recover, recovered_in, latest_search, skips, searched_from}
-use Rattle.recovery_model.specs.Notes.{Tells}
+use Rattle.recovery_model.specs.Journals.{Event, event, journal}
+use Rattle.recovery_model.specs.Histories.{present, next_place, ends_error_condition, is_recover, recovered_in, latest_search, skips, searched_from}
+use Rattle.recovery_model.specs.Matching.{MatchesHistory}
 use Rattle.recovery_model.specs.Law.{recovers_at}
 use Rattle.recovery_model.proofs.Fitting.{Fit}
 use Rattle.recovery_model.proofs.Telling.{tells_step, tells_none}
@@ -24,31 +24,31 @@ module _ (tape first : List Fields) (shows : Shows tape first) (n : Net) (fit : 
   module _ (p : ℕ) where
     -- Before the parser stands at p no recover is begun there; while it does, at most as many as there are states marked; and
     -- after that at most one more than there are states.
-    data Counted (h : List Happened) (q c : ℕ) : Type 0 where
+    data Counted (h : List Event) (q c : ℕ) : Type 0 where
       Ahead : q < p → c ≡ 0 → Counted h q c
       Present : q ≡ p → c ≤ below (recovered_in n h) (size n) → (c ≡ 0) ⊎ (latest_search n first h ≡ Some p) → Counted h q c
       Behind : p < q → c ≤ size n + 1 → Counted h q c
 
     -- one, for a recover that was begun at p
-    abbrev begun : Happened → ℕ
+    abbrev begun : Event → ℕ
     begun e = if is_recover e && (e.before == p) then 1 else 0
 
-    at_most : (h : List Happened) (q c : ℕ) → Counted h q c → c ≤ size n + 1
+    at_most : (h : List Event) (q c : ℕ) → Counted h q c → c ≤ size n + 1
     at_most h q c (Ahead less none) = omega (arith, none)
     at_most h q c (Present same few last) = omega (arith, few, below_most (recovered_in n h) (size n))
     at_most h q c (Behind more few) = few
 
-    begun_one : (e : Happened) → begun e ≤ 1
+    begun_one : (e : Event) → begun e ≤ 1
     begun_one e = cond_both (is_recover e && (e.before == p)) 1 0 (λ m. m ≤ 1) (λ f. omega arith) (λ f. omega arith)
 
-    begun_elsewhere : (e : Happened) → (e.before ≡ p → ⊥) → begun e ≡ 0
+    begun_elsewhere : (e : Event) → (e.before ≡ p → ⊥) → begun e ≡ 0
     begun_elsewhere e ne = cond-false (is_recover e && (e.before == p)) 1 0 (and_right (is_recover e) _ (ne_eqb e.before p ne))
 
-    begun_other : (e : Happened) → is_recover e ≡ false → begun e ≡ 0
+    begun_other : (e : Event) → is_recover e ≡ false → begun e ≡ 0
     begun_other e no_recover = cond-false (is_recover e && (e.before == p)) 1 0 (and_left (is_recover e) _ no_recover)
 
     -- Nothing is passed, so repair goes on, and a recover is the first in its state.
-    module _ (h : List Happened) (e : Happened) (here : e.before ≡ p) (stays : ends_repair n h e ≡ false) where
+    module _ (h : List Event) (e : Event) (here : e.before ≡ p) (stays : ends_error_condition n h e ≡ false) where
       unmarked : is_recover e ≡ false → (c : ℕ) → c ≤ below (recovered_in n h) (size n) → (c ≡ 0) ⊎ (latest_search n first h ≡ Some p) → Counted (e ∷ h) p (c + begun e)
       unmarked other c few last = Present refl (omega (arith, begun_other e other, few, same)) (at last)
         where
@@ -86,22 +86,22 @@ module _ (tape first : List Fields) (shows : Shows tape first) (n : Net) (fit : 
               (λ s ne. now s ∙ cond-false (present n h == s) _ _ (ne_eqb (present n h) s (λ d. ne (sym d)))) in
               omega (arith, few, begun_one e, more)
 
-    module _ (w : WithinSets) (t : Fields) (k : ℕ) (l : k < length first) (is : token_at first k ≡ t) (named : own t ≡ p) (other : is_eof t.typ ≡ false) where
-      same_place : (j : ℕ) → j < length first → token_at tape (own (token_at first j)) ≡ token_at first j
+    module _ (w : WithinSets) (t : Fields) (k : ℕ) (l : k < length first) (is : token_at first k ≡ t) (named : token_index t ≡ p) (other : is_eof t.typ ≡ false) where
+      same_place : (j : ℕ) → j < length first → token_at tape (token_index (token_at first j)) ≡ token_at first j
       same_place j m = (shows.named j m).same
 
-      not_eof : (h : List Happened) (v : View) → Tells n first h v → place v ≡ p → is_eof (current v).typ ≡ false
+      not_eof : (h : List Event) (v : View) → MatchesHistory n first h v → place v ≡ p → is_eof (current v).typ ≡ false
       not_eof h v s at =
           let d = length s.dropped + 0 in
           let now : token_at first d ≡ current v = ap (λ ts. token_at ts d) s.dropped_then_shown ∙ get_or-append-add s.dropped v.shown 0 no_token in
           let inside : d < length first = omega (arith, ap length s.dropped_then_shown, length-append s.dropped v.shown, s.some) in
-          let mine : token_at tape (place v) ≡ current v = ap (λ u. token_at tape (own u)) (sym now) ∙ same_place d inside ∙ now in
-          let its : token_at tape p ≡ t = ap (token_at tape) (sym named ∙ ap own (sym is)) ∙ same_place k l ∙ is in
+          let mine : token_at tape (place v) ≡ current v = ap (λ u. token_at tape (token_index u)) (sym now) ∙ same_place d inside ∙ now in
+          let its : token_at tape p ≡ t = ap (token_at tape) (sym named ∙ ap token_index (sym is)) ∙ same_place k l ∙ is in
           ap (λ u. is_eof u.typ) (sym mine ∙ ap (token_at tape) at ∙ its) ∙ other
 
-      module _ (h : List Happened) (v : View) (s : Tells n first h v) (call : Call) (c : ℕ) where
-        abbrev e : Happened
-        e = happens n w call v
+      module _ (h : List Event) (v : View) (s : MatchesHistory n first h v) (call : Call) (c : ℕ) where
+        abbrev e : Event
+        e = event n w call v
 
         abbrev u : View
         u = (step n w call v).view
@@ -118,8 +118,8 @@ module _ (tape first : List Fields) (shows : Shows tape first) (n : Net) (fit : 
             passes_none : passes tape first shows n fit h v s e ≡ false
             passes_none = false_from_ne_true _ (λ b. let far : place v < place u = step_passes tape first shows n fit h v s call w (not_eof h v s same) b in omega (arith, far, same, still))
 
-            parts : (ends_repair n h e ≡ false) × ((is_recover e && skips n first h e) ≡ false)
-            parts = or_parts (ends_repair n h e) _ passes_none
+            parts : (ends_error_condition n h e ≡ false) × ((is_recover e && skips n first h e) ≡ false)
+            parts = or_parts (ends_error_condition n h e) _ passes_none
 
             at : (is_recover e ≡ true) ⊎ (is_recover e ≡ false) → Counted (e ∷ h) p (c + begun e)
             at (inl it_is) = marked h e same parts.0 (sym (ap (λ b. b && skips n first h e) it_is) ∙ parts.1) it_is inside_here c few last
@@ -142,10 +142,10 @@ module _ (tape first : List Fields) (shows : Shows tape first) (n : Net) (fit : 
             at (inr ne) = Behind (omega (arith, rose, same, ne)) (omega (arith, few, below_most (recovered_in n h) (size n), begun_one e))
         counted (Behind more few) = Behind (omega (arith, more, rose)) (omega (arith, few, begun_elsewhere e (λ d. omega (arith, d, more))))
 
-      counted_run : (cs : List Call) (h : List Happened) (v : View) → Tells n first h v → (c : ℕ) → Counted h (place v) c → c + recovers_at p (journal n w cs v) ≤ size n + 1
+      counted_run : (cs : List Call) (h : List Event) (v : View) → MatchesHistory n first h v → (c : ℕ) → Counted h (place v) c → c + recovers_at p (journal n w cs v) ≤ size n + 1
       counted_run [] h v s c so = omega (arith, at_most h (place v) c so)
       counted_run (call ∷ cs) h v s c so =
-          let e = happens n w call v in
+          let e = event n w call v in
           let u = (step n w call v).view in
           let next : recovers_at p (journal n w (call ∷ cs) v) ≡ begun e + recovers_at p (journal n w cs u) = sum_by-cons begun e (journal n w cs u) in
           omega (arith, next, counted_run cs (e ∷ h) u (tells_step tape first shows n fit h v s w call) (c + begun e) (counted h v s call c so))
@@ -159,6 +159,6 @@ module _ (tape first : List Fields) (shows : Shows tape first) (n : Net) (fit : 
           at (inr b) (inr ne) = Behind (omega (arith, b, ne)) (omega arith)
 
   -- Any calls of a new parser begin few recovers at a token that is not EOF.
-  pub few_recovers : (w : WithinSets) (cs : List Call) (v : View) → v.state ≡ None → v.open_rules ≡ [] → v.noted ≡ nothing_noted → v.shown ≡ first → (t : Fields) (k : ℕ) → k < length first → token_at first k ≡ t → is_eof t.typ ≡ false → recovers_at (own t) (journal n w cs v) ≤ size n + 1
-  few_recovers w cs v state none noted shown t k l is other =
-      omega (arith, counted_run (own t) w t k l is refl other cs [] v (tells_none tape first shows n fit v state none noted shown) 0 (begins (own t) w t k l is refl other (place v)))
+  pub bounded_recovers : (w : WithinSets) (cs : List Call) (v : View) → v.state ≡ None → v.open_rules ≡ [] → v.strategy ≡ new_strategy_state → v.shown ≡ first → (t : Fields) (k : ℕ) → k < length first → token_at first k ≡ t → is_eof t.typ ≡ false → recovers_at (token_index t) (journal n w cs v) ≤ size n + 1
+  bounded_recovers w cs v state none strategy shown t k l is other =
+      omega (arith, counted_run (token_index t) w t k l is refl other cs [] v (tells_none tape first shows n fit v state none strategy shown) 0 (begins (token_index t) w t k l is refl other (place v)))

@@ -3,16 +3,16 @@ use Rattle.std.proofs.Common.{◌≡◌, ℕ, Bool, true, false, not, ◌&&◌, 
 use Rattle.std.proofs.lemmas.Bool.{cond_both, both_ways, cases_Bool, and_right, eq-eqb}
 use Rattle.atn_graph.specs.Net.{Net}
 use Rattle.records.specs.declared.leaf.LeafKind.TheVariants.{Error}
-use Rattle.token.specs.Tokens.{Fields, type_number, is_eof, own}
+use Rattle.token.specs.Tokens.{Fields, type_number, is_eof, token_index}
 use Rattle.token_stream.specs.Tapes.{token_at, EndsInEof}
 use Rattle.token_stream.specs.Streams.{passed}
 use Rattle.recovery_model.specs.Calls.{Token, Done}
 use Rattle.recovery_model.specs.Sets.{WithinSets, joined}
 use Rattle.recovery_model.specs.Views.{View, Pair, current, place, ahead, here, follows, own_pair}
-use Rattle.recovery_model.specs.Passing.{Reason, Taken, Deleted, Searched, before, pass, pass_many, in_repair, begun, given, ended}
+use Rattle.recovery_model.specs.Passing.{Reason, Taken, Deleted, Searched, before, pass, pass_many, in_error_recovery_mode, begin_error_condition, given, end_error_condition}
 use Rattle.recovery_model.specs.Outcomes.{Outcome, does, telling}
-use Rattle.recovery_model.specs.Repairs.{expects, is_extra, is_missing, made_up, unwanted, missing, struck, inserted, mismatch_at, mismatches, takes, repairs, matched}
-use Rattle.recovery_model.specs.Syncs.{Choice, Begins, GoesBack, Neither, choice_here, may_come, may_be_nothing, stops_at, acts, syncs}
+use Rattle.recovery_model.specs.Repairs.{expects, is_unwanted, is_missing, missing_symbol, unwanted_token, missing_token, single_token_deletion, single_token_insertion, mismatch_at, mismatches, take_token, recover_inline, matched}
+use Rattle.recovery_model.specs.Syncs.{Choice, Begins, GoesBack, Neither, choice_here, may_come, may_be_nothing, stops_at, acts, sync}
 use Rattle.recovery_model.specs.Histories.{is_accepted, is_of_the_tape, begins_choice}
 use Rattle.recovery_model.proofs.Shown.{Rises, Numbered, onward_ends, onward_numbered, passed_moves, ahead_of_eof}
 use Rattle.recovery_model.proofs.Cases.{by_match, by_acts, by_sync}
@@ -22,21 +22,21 @@ use Rattle.recovery_model.proofs.Moves.{Same, Cleared, same_self, same_on, clear
 abbrev pub Matches : View → Outcome → Type 0
 Matches v o = (Cleared v o.view × (is_of_the_tape o.answer ≡ true)) ⊎ (Same v o.view × (is_of_the_tape o.answer ≡ false))
 
-of_the_tape : (t : Fields) → t.index ≡ Some (own t) → is_of_the_tape (Token t) ≡ true
+of_the_tape : (t : Fields) → t.index ≡ Some (token_index t) → is_of_the_tape (Token t) ≡ true
 of_the_tape t e = rw e refl
 
 module _ (v : View) (ends : EndsInEof v.shown) (numbered : Numbered v.shown) where
-  taken : (u : View) → Cleared v u → Matches v (takes u)
+  taken : (u : View) → Cleared v u → Matches v (take_token u)
   taken u c =
       let still = onward_ends v.shown u.shown ends c.onward in
       inl (cleared_on v u (pass Taken u) c (same_pass Taken u still), of_the_tape (current u) (onward_numbered v.shown u.shown numbered c.onward 0 still.some))
 
-  cleared_struck : Cleared v (struck v)
-  cleared_struck = let u = begun v in cleared_ended v (pass Deleted u) (same_on v u _ (same_begun v ends) (same_pass Deleted u ends))
+  cleared_struck : Cleared v (single_token_deletion v)
+  cleared_struck = let u = begin_error_condition v in cleared_ended v (pass Deleted u) (same_on v u _ (same_begun v ends) (same_pass Deleted u ends))
 
-  same_inserted : (n : Net) (w : WithinSets) → Same v (inserted n w v)
+  same_inserted : (n : Net) (w : WithinSets) → Same v (single_token_insertion n w v)
   same_inserted n w =
-      let u = begun v in same_on v u _ (same_begun v ends) (same_add Error (made_up n w v) u ends)
+      let u = begin_error_condition v in same_on v u _ (same_begun v ends) (same_add Error (missing_symbol n w v) u ends)
 
   still_same : Same v v
   still_same = same_self v ends
@@ -44,8 +44,8 @@ module _ (v : View) (ends : EndsInEof v.shown) (numbered : Numbered v.shown) whe
   pub matched_so : (fit : Bool) (n : Net) (w : WithinSets) → Matches v (matched fit n w v)
   matched_so fit n w =
       by_match (Matches v) fit n w v
-      (λ _. taken (ended v) (cleared_ended v v still_same))
-      (λ _. taken (struck v) cleared_struck)
+      (λ _. taken (end_error_condition v) (cleared_ended v v still_same))
+      (λ _. taken (single_token_deletion v) cleared_struck)
       (λ _. inr (same_inserted n w, refl))
       (inr (record { standing = refl; last = refl; marks = refl; onward = still_same.onward }, refl))
 
@@ -71,30 +71,30 @@ module _ (n : Net) (w : WithinSets) (v : View) (ends : EndsInEof v.shown) (rises
   in_place : (o : Outcome) → Same v o.view → place o.view ≡ place v → Syncs n v o
   in_place o same e = inr (record { same = same; ends_nothing = and_right (begins_choice n (here v)) _ (ap not (eq-eqb (place o.view) (place v) e)) })
 
-  pub not_eof : may_come w v ≡ false → may_be_nothing w v ≡ false → is_extra n w v ≡ true → is_eof (current v).typ ≡ false
+  pub not_eof : may_come w v ≡ false → may_be_nothing w v ≡ false → is_unwanted n w v ≡ true → is_eof (current v).typ ≡ false
   not_eof come nothing extra = at (cases_Bool (is_eof (current v).typ))
     where
       at : (is_eof (current v).typ ≡ true) ⊎ (is_eof (current v).typ ≡ false) → is_eof (current v).typ ≡ false
       at (inl e) =
           let none : expects n w v (ahead v 1) ≡ false = joined_here w (here v) (follows n v) (ahead v 1) come nothing in
-          absurd (both_ways (is_extra n w v) (ap (λ t. expects n w v (type_number t.typ)) (ahead_of_eof v.shown ends e) ∙ none) extra)
+          absurd (both_ways (is_unwanted n w v) (ap (λ t. expects n w v (type_number t.typ)) (ahead_of_eof v.shown ends e) ∙ none) extra)
       at (inr e) = e
 
-  pub struck_moves : is_eof (current v).typ ≡ false → place (struck v) ≡ place v → ⊥
+  pub struck_moves : is_eof (current v).typ ≡ false → place (single_token_deletion v) ≡ place v → ⊥
   struck_moves e same = passed_moves v.shown ends rises e same
 
   acted : may_come w v ≡ false → may_be_nothing w v ≡ false → Syncs n v (acts (choice_here n v) n w v)
   acted come nothing =
       let k = before (stops_at n w v) v.shown in
-      let u = begun v in
+      let u = begin_error_condition v in
       by_acts (Syncs n v) (choice_here n v) n w v
       (λ is e. inl (record { cleared = cleared_struck v ends numbered; accepted = refl; begins = rw is refl; moves = struck_moves (not_eof come nothing e) }))
       (λ _. in_place _ (record { standing = refl; last = refl; marks = refl; onward = (still_same v ends numbered).onward }) refl)
       (λ is. inr (record { same = same_on v u (pass_many Searched k u) (same_begun v ends) (same_many Searched k u ends); ends_nothing = rw is refl }))
       (λ _. in_place _ (still_same v ends numbered) refl)
 
-  pub syncs_so : Syncs n v (syncs n w v)
-  syncs_so = by_sync (Syncs n v) n w v (λ _. in_place _ (still_same v ends numbered) refl) (λ _. in_place _ noted refl) (λ _. in_place _ noted refl) acted
+  pub syncs_so : Syncs n v (sync n w v)
+  syncs_so = by_sync (Syncs n v) n w v (λ _. in_place _ (still_same v ends numbered) refl) (λ _. in_place _ strategy refl) (λ _. in_place _ strategy refl) acted
     where
-      noted : {p : Option Pair} → Same v (record v { noted = record v.noted { saved = p } })
-      noted = record { standing = refl; last = refl; marks = refl; onward = (still_same v ends numbered).onward }
+      strategy : {p : Option Pair} → Same v (record v { strategy = record v.strategy { next_tokens = p } })
+      strategy = record { standing = refl; last = refl; marks = refl; onward = (still_same v ends numbered).onward }

@@ -12,25 +12,25 @@ use Rattle.recovery_model.specs.Sets.{WithinSets, Agree, recovery}
 use Rattle.recovery_model.specs.Views.{View, place, follows}
 use Rattle.recovery_model.specs.Passing.{Searched, pass_many}
 use Rattle.recovery_model.specs.Outcomes.{Outcome}
-use Rattle.recovery_model.specs.Recovering.{unstuck, searching, search_length, recovers}
+use Rattle.recovery_model.specs.Recovering.{failsafe, searching, search_length, recover}
 use Rattle.recovery_model.specs.Steps.{step}
-use Rattle.recovery_model.specs.Journals.{Happened, happens}
+use Rattle.recovery_model.specs.Journals.{Event, event}
 use Rattle.recovery_model.specs.Histories.{is_accepted, is_recover, open_follows, shown_from, searched_from}
 use Rattle.recovery_model.specs.Law.{MayFollow, EndsOn}
-use Rattle.recovery_model.specs.Notes.{Tells}
+use Rattle.recovery_model.specs.Matching.{MatchesHistory}
 use Rattle.recovery_model.proofs.Fitting.{Fit}
 use Rattle.recovery_model.proofs.Shown.{onward_ends, onward_from, onward_more}
 use Rattle.recovery_model.proofs.Searching.{Stops, many_shown, stops_before, decides_recovery, same_chain}
 use Rattle.recovery_model.proofs.Telling.{told, onward, ends, same_unstuck, searches_from}
 use Rattle.recovery_model.proofs.Cases.{by_step}
 
-module _ (tape first : List Fields) (shows : Shows tape first) (n : Net) (fit : Fit n) (h : List Happened) (v : View) (t : Tells n first h v) (w : WithinSets) (agree : Agree n w) where
+module _ (tape first : List Fields) (shows : Shows tape first) (n : Net) (fit : Fit n) (h : List Event) (v : View) (t : MatchesHistory n first h v) (w : WithinSets) (agree : Agree n w) where
   abbrev Ends : Outcome → Type 0
   Ends o = is_recover (told Recover v o) ≡ true → EndsOn n h first (searched_from n first h (told Recover v o)) (place o.view)
 
-  -- where the search goes on, after what the guard skips
+  -- where the search goes on, after what the failsafe skips
   abbrev u : View
-  u = searching (unstuck v)
+  u = searching (failsafe v)
 
   follows_so : follows n u ≡ open_follows n h
   follows_so = ap (follow_states n) (same_chain u.open_rules ∙ ap (λ p. flat_map option_to_list p.invoking) ((same_unstuck tape first shows n fit h v t).standing ∙ t.standing))
@@ -38,7 +38,7 @@ module _ (tape first : List Fields) (shows : Shows tape first) (n : Net) (fit : 
   may_follow : (tok : Fields) → (recovery w (follows n u) (type_number tok.typ) ≡ true → MayFollow n h tok) × (MayFollow n h tok → recovery w (follows n u) (type_number tok.typ) ≡ true)
   may_follow tok = rw follows_so (decides_recovery n w agree (open_follows n h) (type_number tok.typ))
 
-  searched : Ends (recovers n w v)
+  searched : Ends (recover n w v)
   searched e =
       let types = recovery w (follows n u) in
       let away = (same_unstuck tape first shows n fit h v t).onward in
@@ -48,7 +48,7 @@ module _ (tape first : List Fields) (shows : Shows tape first) (n : Net) (fit : 
         passed = s.passed;
         rest = (pass_many Searched k u).shown;
         parts =
-            ap (λ q. shown_from q first) (sym (searches_from tape first shows n fit h v t (recovers n w v)))
+            ap (λ q. shown_from q first) (sym (searches_from tape first shows n fit h v t (recover n w v)))
             ∙ sym (onward_from first u.shown shows.rises (onward_more first v.shown u.shown (onward tape first shows n fit h v t) away))
             ∙ s.parts;
         place = refl;
@@ -70,7 +70,7 @@ module _ (tape first : List Fields) (shows : Shows tape first) (n : Net) (fit : 
   other : (b : Bool) → (b && false) ≡ true → ⊥
   other b e = both_ways false refl (and_parts b false e).1
 
-  pub step_ends : (c : Call) → is_recover (happens n w c v) ≡ true → EndsOn n h first (searched_from n first h (happens n w c v)) (place (step n w c v).view)
+  pub step_ends : (c : Call) → is_recover (event n w c v) ≡ true → EndsOn n h first (searched_from n first h (event n w c v)) (place (step n w c v).view)
   step_ends (State s) e = absurd (other (is_accepted (step n w (State s) v).answer) e)
   step_ends (Enter r) e = absurd (other (is_accepted (step n w (Enter r) v).answer) e)
   step_ends Leave e = absurd (other (is_accepted (step n w Leave v).answer) e)

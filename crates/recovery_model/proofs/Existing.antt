@@ -14,9 +14,9 @@ use Rattle.atn.proofs.Labelling.{decides_takes}
 use Rattle.atn.proofs.Over.{knows_over}
 use Rattle.atn.proofs.Some.{any_place, place_any}
 use Rattle.ll1_analyzer.specs.Sets.{Types, CanEnd}
-use Rattle.ll1_analyzer.proofs.Ends.{ends_of_reached, reached_of_ends, null_of_stop, stop_of_null, takes_inside}
+use Rattle.ll1_analyzer.proofs.Ends.{ends_of_reached, reached_of_ends, nullable_of_stop, stop_of_nullable, takes_inside}
 use Rattle.recovery_model.specs.Existing.{SetsExist, SetsOnce}
-use Rattle.recovery_model.proofs.Nulls.{Nulls, nulls_of}
+use Rattle.recovery_model.proofs.NullableFound.{NullableFound, nullables_of}
 use Rattle.recovery_model.proofs.Reached.{Reached, reached_from}
 
 -- a test whether one of the states takes x
@@ -48,7 +48,7 @@ record TypesOf (n : Net) (s : ℕ) : Type 0 where
   right : (x : ℤ) → Decides (test x) (Types n s x)
 
 -- in a net
-types_inside : (g : Graph) → Nulls (net g.lists) → (s : ℕ) → s < size (net g.lists) → TypesOf (net g.lists) s
+types_inside : (g : Graph) → NullableFound (net g.lists) → (s : ℕ) → s < size (net g.lists) → TypesOf (net g.lists) s
 types_inside g u s l = record { test = any_takes (net g.lists) r.listed; right = decides_types g s r.listed (knows_over (net g.lists) s r.listed u.listed u.known r.known) }
   where
     told : (k : ℕ) → Listed u.listed k ⊎ (Listed u.listed k → ⊥)
@@ -61,12 +61,12 @@ types_inside g u s l = record { test = any_takes (net g.lists) r.listed; right =
 types_outside : (n : Net) (s : ℕ) → size n ≤ s → TypesOf n s
 types_outside n s out = record { test = λ x. false; right = λ x. (λ h. absurd (both_ways false refl h), λ e. absurd (omega (arith, out, takes_inside x e.walk refl e.takes))) }
 
-types_of : (g : Graph) → Nulls (net g.lists) → (s : ℕ) → TypesOf (net g.lists) s
+types_of : (g : Graph) → NullableFound (net g.lists) → (s : ℕ) → TypesOf (net g.lists) s
 types_of g u s = elim (cases_lt s (size (net g.lists))) [ inl l ↦ types_inside g u s l | inr l ↦ types_outside (net g.lists) s l ]
 
--- a walk can end where the state is null
-decides_end : {n : Net} (u : Nulls n) (s : ℕ) → Decides (elem s u.listed) (CanEnd n s)
-decides_end {n} u s = (λ h. let w = stop_of_null ((u.known s).0 h) [] in record { state = w.0; walk = w.1; stop = w.2 }, λ e. (u.known s).1 (null_of_stop e))
+-- a walk can end where the state is nullable
+decides_end : {n : Net} (u : NullableFound n) (s : ℕ) → Decides (elem s u.listed) (CanEnd n s)
+decides_end {n} u s = (λ h. let w = stop_of_nullable ((u.known s).0 h) [] in record { state = w.0; walk = w.1; stop = w.2 }, λ e. (u.known s).1 (nullable_of_stop e))
 
 pub sets_exist : (a : Atn) → SetsExist a
 sets_exist a = record {
@@ -74,8 +74,8 @@ sets_exist a = record {
   agree = record { types = λ s. (types_of a.graph u s).right; ends = decides_end u };
 }
   where
-    u : Nulls (net a.graph.lists)
-    u = nulls_of a.graph
+    u : NullableFound (net a.graph.lists)
+    u = nullables_of a.graph
 
 pub sets_once : (n : Net) → SetsOnce n
 sets_once n v w a b = λ i. record {

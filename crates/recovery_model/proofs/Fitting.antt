@@ -3,7 +3,7 @@ use Rattle.std.proofs.Common.{◌≡◌, ℕ, ◌<◌, ◌≤◌, false, ◌||�
 use Rattle.std.proofs.lemmas.Bool.{or_parts, and_parts, ltb-true, ltb-false}
 use Rattle.atn_graph.specs.Tables.{outside, counts_outside}
 use Rattle.atn_graph.specs.Net.{Net, size, rule_at, state_at}
-use Rattle.atn_graph.specs.Rules.{Sound, counts_of, beyond_limits}
+use Rattle.atn_graph.specs.Rules.{IsSoundNet, counts_of, beyond_limits}
 use Rattle.std.specs.Prelude.{nat_lt, int_lt, ◌==◌}
 
 -- it has states, few enough for the marks, and each rule starts in one
@@ -17,7 +17,7 @@ within low high k e =
     let p = or_parts (int_lt (pos k) (pos low)) (int_lt (pos high) (pos k)) e in
     (ltb-false k low p.0, ltb-false high k p.1)
 
-pub fit_of : (n : Net) → Sound n → beyond_limits n ≡ false → Fit n
+pub fit_of : (n : Net) → IsSoundNet n → beyond_limits n ≡ false → Fit n
 fit_of n sound limits =
     let counts : counts_outside (counts_of n) ≡ false = (or_parts (counts_outside (counts_of n)) (outside 1 255 n.max) limits).0 in
     let rest = outside 2 512 (pos (size n)) || (outside 0 2048 (pos (length n.edges)) || outside 0 1024 (pos (length n.intervals))) in

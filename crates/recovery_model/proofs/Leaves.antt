@@ -6,8 +6,8 @@ use Rattle.std.proofs.lemmas.List.Elements.{filter-append}
 use Rattle.atn_graph.specs.Net.{Net}
 use Rattle.records.specs.declared.leaf.LeafKind.{LeafKind}
 use Rattle.records.specs.declared.leaf.LeafKind.TheVariants.{Error}
-use Rattle.records.specs.Leaves.{Said as Leaf}
-use Rattle.token.specs.Tokens.{Fields, is_eof, own}
+use Rattle.records.specs.Leaves.{LeafFields as Leaf}
+use Rattle.token.specs.Tokens.{Fields, is_eof, token_index}
 use Rattle.token_stream.specs.Tapes.{no_token, token_at}
 use Rattle.token_stream.specs.Streams.{passed}
 use Rattle.recovery_model.specs.declared.call.Call.{Call}
@@ -15,11 +15,11 @@ use Rattle.recovery_model.specs.declared.call.Call.TheVariants.{State, Enter, Le
 use Rattle.recovery_model.specs.Calls.{fits}
 use Rattle.recovery_model.specs.Sets.{WithinSets}
 use Rattle.recovery_model.specs.Views.{View, current, ahead}
-use Rattle.recovery_model.specs.Passing.{Reason, Taken, Deleted, Searched, leaf, add, pass, pass_many, before, begun, ended}
+use Rattle.recovery_model.specs.Passing.{Reason, Taken, Deleted, Searched, leaf, add, pass, pass_many, before, begin_error_condition, end_error_condition}
 use Rattle.recovery_model.specs.Outcomes.{Outcome}
-use Rattle.recovery_model.specs.Repairs.{made_up, struck, inserted, matched}
-use Rattle.recovery_model.specs.Syncs.{Choice, choice_here, stops_at, acts, syncs}
-use Rattle.recovery_model.specs.Recovering.{unstuck, searching, search_length, recovers}
+use Rattle.recovery_model.specs.Repairs.{missing_symbol, single_token_deletion, single_token_insertion, matched}
+use Rattle.recovery_model.specs.Syncs.{Choice, choice_here, stops_at, acts, sync}
+use Rattle.recovery_model.specs.Recovering.{failsafe, searching, search_length, recover}
 use Rattle.recovery_model.specs.Steps.{left, reports, accepted, step}
 use Rattle.recovery_model.specs.Journals.{run}
 use Rattle.recovery_model.specs.Law.{leaf_mark, token_mark, is_of_a_dropped}
@@ -53,7 +53,7 @@ adds_then v u x a b = record {
 -- what is shown after it is numbered still
 numbered_after : (d ts : List Fields) → Numbered (d ++ ts) → Numbered ts
 numbered_after d ts numbered k l =
-    subst (λ t. t.index ≡ Some (own t)) (get_or-append-add d ts k no_token) (numbered (length d + k) (omega (arith, length-append d ts)))
+    subst (λ t. t.index ≡ Some (token_index t)) (get_or-append-add d ts k no_token) (numbered (length d + k) (omega (arith, length-append d ts)))
 
 pub adds_numbered : (v u : View) → Numbered v.shown → Adds v u → Numbered u.shown
 adds_numbered v u numbered a = numbered_after a.dropped u.shown (subst Numbered a.shown numbered)
@@ -94,18 +94,18 @@ adds_made kind t v e = record { added = leaf kind t v ∷ []; leaves = refl; dro
     none : is_of_a_dropped (leaf kind t v) ≡ false
     none = rw e (and_right (not (is_eof t.typ)) false refl)
 
-adds_begun : (v : View) → Adds v (begun v)
-adds_begun v = adds_none v (begun v) refl refl
+adds_begun : (v : View) → Adds v (begin_error_condition v)
+adds_begun v = adds_none v (begin_error_condition v) refl refl
 
 module _ (n : Net) (w : WithinSets) (v : View) (numbered : Numbered v.shown) where
-  adds_struck : Adds v (struck v)
+  adds_struck : Adds v (single_token_deletion v)
   adds_struck =
-      let u = begun v in
+      let u = begin_error_condition v in
       let two = adds_then v u (pass Deleted u) (adds_begun v) (adds_pass Deleted u numbered) in
-      adds_then v (pass Deleted u) (struck v) two (adds_none (pass Deleted u) (struck v) refl refl)
+      adds_then v (pass Deleted u) (single_token_deletion v) two (adds_none (pass Deleted u) (single_token_deletion v) refl refl)
 
-  adds_inserted : Adds v (inserted n w v)
-  adds_inserted = adds_then v (begun v) (inserted n w v) (adds_begun v) (adds_made Error (made_up n w v) (begun v) refl)
+  adds_inserted : Adds v (single_token_insertion n w v)
+  adds_inserted = adds_then v (begin_error_condition v) (single_token_insertion n w v) (adds_begun v) (adds_made Error (missing_symbol n w v) (begin_error_condition v) refl)
 
   adds_taken : (u : View) → Adds v u → Adds v (pass Taken u)
   adds_taken u a = adds_then v u (pass Taken u) a (adds_pass Taken u (adds_numbered v u numbered a))
@@ -116,14 +116,14 @@ module _ (n : Net) (w : WithinSets) (v : View) (numbered : Numbered v.shown) whe
   adds_matched : (fit : Bool) → Does (matched fit n w v)
   adds_matched fit =
       by_match Does fit n w v
-      (λ _. adds_taken (ended v) (adds_none v (ended v) refl refl))
-      (λ _. adds_taken (struck v) adds_struck)
+      (λ _. adds_taken (end_error_condition v) (adds_none v (end_error_condition v) refl refl))
+      (λ _. adds_taken (single_token_deletion v) adds_struck)
       (λ _. adds_inserted)
       (adds_none v _ refl refl)
 
   adds_acts : (c : Choice) → Does (acts c n w v)
   adds_acts c =
-      let u = begun v in
+      let u = begin_error_condition v in
       let k = before (stops_at n w v) v.shown in
       by_acts Does c n w v
       (λ _ _. adds_struck)
@@ -131,7 +131,7 @@ module _ (n : Net) (w : WithinSets) (v : View) (numbered : Numbered v.shown) whe
       (λ _. adds_then v u (pass_many Searched k u) (adds_begun v) (adds_many Searched k u numbered))
       (λ _. adds_none v v refl refl)
 
-  adds_syncs : Does (syncs n w v)
+  adds_syncs : Does (sync n w v)
   adds_syncs =
       by_sync Does n w v
       (λ _. adds_none v v refl refl)
@@ -139,13 +139,13 @@ module _ (n : Net) (w : WithinSets) (v : View) (numbered : Numbered v.shown) whe
       (λ _. adds_none v _ refl refl)
       (λ _ _. adds_acts (choice_here n v))
 
-  adds_unstuck : Adds v (unstuck v)
+  adds_unstuck : Adds v (failsafe v)
   adds_unstuck = by_guard (Adds v) v (λ _. adds_pass Searched v numbered) (λ _. adds_none v v refl refl)
 
-  adds_recovers : Does (recovers n w v)
+  adds_recovers : Does (recover n w v)
   adds_recovers =
-      let u = searching (unstuck v) in
-      let a = adds_then v (unstuck v) u adds_unstuck (adds_none (unstuck v) u refl refl) in
+      let u = searching (failsafe v) in
+      let a = adds_then v (failsafe v) u adds_unstuck (adds_none (failsafe v) u refl refl) in
       adds_then v u (pass_many Searched (search_length n w u) u) a (adds_many Searched (search_length n w u) u (adds_numbered v u numbered a))
 
   adds_left : Does (left v)

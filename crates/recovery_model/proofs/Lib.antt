@@ -14,7 +14,7 @@ pub mod Past
 pub mod Counting
 pub mod Setting
 pub mod Rooms
-pub mod Nulls
+pub mod NullableFound
 pub mod Reached
 pub mod Existing
 pub mod LeafLimits

@@ -10,14 +10,14 @@ use Rattle.atn_graph.specs.Net.{Net, net, size, Of, state_at, edge_at}
 use Rattle.atn_graph.proofs.Inside.{few_states, target_inside, follow_inside}
 use Rattle.atn_graph.proofs.StateEdges.{run_rises}
 use Rattle.atn.specs.Marks.{Grown}
-use Rattle.atn.specs.Found.{noted}
+use Rattle.atn.specs.Found.{with_state}
 use Rattle.atn.specs.Reach.{StepOver, LeadsByOver, LeadsOver, LeadsAmongOver, KnowsReachedOver}
 use Rattle.atn.proofs.Growth.{grown_none, grown_like, grown_both}
 use Rattle.atn.proofs.Some.{among_more, among_last, edge_state}
-use Rattle.atn.proofs.Following.{along_noted, call_noted, both_noted}
+use Rattle.atn.proofs.Following.{along_with, call_with, both_with}
 use Rattle.atn.proofs.Steps.{step_leads, leads_step}
 use Rattle.atn.proofs.Searching.{Search, search_start, search_more, search_end}
-use Rattle.recovery_model.proofs.Rooms.{Room, room_none, room_noted, room_few}
+use Rattle.recovery_model.proofs.Rooms.{Room, room_none, room_with, room_few}
 
 -- The list, grown by what P tells.
 record Visit (P : ℕ → Type 0) (before : List ℕ) : Type 0 where
@@ -35,19 +35,19 @@ module _ (N : ℕ → Type 0) (told : (k : ℕ) → N k ⊎ (N k → ⊥)) where
   visit_edge : (e : Transition) → e.target < 512 → ((f : ℕ) → move_of e.kind ≡ Call f → f < 512) → (a : List ℕ) → Room a → Visit (LeadsOver N e) a
   visit_edge e t few a r = at (move_of e.kind) refl
     where
-      one : Room (noted e.target a)
-      one = room_noted e.target a t r
+      one : Room (with_state e.target a)
+      one = room_with e.target a t r
 
       call : (f : ℕ) → Call f ≡ move_of e.kind → N e.target ⊎ (N e.target → ⊥) → Visit (LeadsOver N e) a
       call f is (inl u) = record {
-        after = noted f (noted e.target a);
-        grown = both_noted N e a f (noted e.target a) _ is u refl refl;
-        room = room_noted f (noted e.target a) (few f (sym is)) one;
+        after = with_state f (with_state e.target a);
+        grown = both_with N e a f (with_state e.target a) _ is u refl refl;
+        room = room_with f (with_state e.target a) (few f (sym is)) one;
       }
-      call f is (inr never) = record { after = noted e.target a; grown = call_noted N e a f (noted e.target a) is never refl; room = one }
+      call f is (inr never) = record { after = with_state e.target a; grown = call_with N e a f (with_state e.target a) is never refl; room = one }
 
       at : (m : Move) → m ≡ move_of e.kind → Visit (LeadsOver N e) a
-      at Along is = record { after = noted e.target a; grown = along_noted N e a (noted e.target a) is refl; room = one }
+      at Along is = record { after = with_state e.target a; grown = along_with N e a (with_state e.target a) is refl; room = one }
       at (Call f) is = call f is (told e.target)
       at Token is = record { after = a; grown = grown_none a (λ k h. absurd (subst (λ m. LeadsByOver N e.target m k) (sym is) h)); room = r }
 
@@ -95,4 +95,4 @@ module _ (N : ℕ → Type 0) (told : (k : ℕ) → N k ⊎ (N k → ⊥)) where
 
   pub reached_from : (g : Graph) (s : ℕ) → s < size (net g.lists) → Reached N (net g.lists) s
   reached_from g s l =
-      search_from g s 512 0 (noted s []) (search_start N g s [] (noted s []) refl refl l) (room_noted s [] (omega (arith, few_states g, l)) room_none) (omega arith)
+      search_from g s 512 0 (with_state s []) (search_start N g s [] (with_state s []) refl refl l) (room_with s [] (omega (arith, few_states g, l)) room_none) (omega arith)

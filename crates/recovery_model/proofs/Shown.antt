@@ -4,7 +4,7 @@ use Rattle.std.proofs.lemmas.List.{get_or_append_left, get_or-append-add, length
 use Rattle.std.proofs.lemmas.List.Elements.{filter-append}
 use Rattle.std.proofs.lemmas.Bool.{cond_both, cond-true, cond-false, both_ways, cases_eq, le-leb, lt-leb}
 use Rattle.std.specs.Prelude.{nat_le}
-use Rattle.token.specs.Tokens.{Fields, is_eof, own}
+use Rattle.token.specs.Tokens.{Fields, is_eof, token_index}
 use Rattle.token_stream.specs.Tapes.{no_token, token_at, EndsInEof}
 use Rattle.token_stream.specs.Streams.{passed, shown_at}
 use Rattle.recovery_model.specs.Histories.{shown_from, next_place}
@@ -18,9 +18,9 @@ pub record Onward (old new : List Fields) : Type 0 where
 pub onward_by : (d new old : List Fields) → old ≡ d ++ new → 0 < length new → Onward old new
 onward_by d new old e l = record { dropped = d; parts = e; some = l }
 
--- own indexes rise
+-- token indexes rise
 abbrev pub Rises : List Fields → Type 0
-Rises ts = (j k : ℕ) → j < k → k < length ts → own (token_at ts j) < own (token_at ts k)
+Rises ts = (j k : ℕ) → j < k → k < length ts → token_index (token_at ts j) < token_index (token_at ts k)
 
 ends_after : (d ts : List Fields) → EndsInEof (d ++ ts) → 0 < length ts → EndsInEof ts
 ends_after d ts ends some = record {
@@ -39,66 +39,66 @@ passed_onward (t ∷ []) ends = cond_both (is_eof t.typ) (t ∷ []) [] (Onward (
 passed_onward (t ∷ u ∷ us) ends = cond_both (is_eof t.typ) (t ∷ u ∷ us) (u ∷ us) (Onward (t ∷ u ∷ us)) (λ e. onward_by [] _ _ refl ends.some) (λ e. onward_by (t ∷ []) _ _ refl (omega arith))
 
 -- which tokens are shown from a place on
-from_all : (p : ℕ) (ts : List Fields) → ((k : ℕ) → k < length ts → p ≤ own (token_at ts k)) → shown_from p ts ≡ ts
+from_all : (p : ℕ) (ts : List Fields) → ((k : ℕ) → k < length ts → p ≤ token_index (token_at ts k)) → shown_from p ts ≡ ts
 from_all p [] h = refl
-from_all p (t ∷ ts) h = cond-true (nat_le p (own t)) _ _ (le-leb p (own t) (h 0 (omega arith))) ∙ ap (λ us. t ∷ us) (from_all p ts (λ k l. h (suc k) (omega arith)))
+from_all p (t ∷ ts) h = cond-true (nat_le p (token_index t)) _ _ (le-leb p (token_index t) (h 0 (omega arith))) ∙ ap (λ us. t ∷ us) (from_all p ts (λ k l. h (suc k) (omega arith)))
 
-from_none : (p : ℕ) (ts : List Fields) → ((k : ℕ) → k < length ts → own (token_at ts k) < p) → shown_from p ts ≡ []
+from_none : (p : ℕ) (ts : List Fields) → ((k : ℕ) → k < length ts → token_index (token_at ts k) < p) → shown_from p ts ≡ []
 from_none p [] h = refl
-from_none p (t ∷ ts) h = cond-false (nat_le p (own t)) _ _ (lt-leb p (own t) (h 0 (omega arith))) ∙ from_none p ts (λ k l. h (suc k) (omega arith))
+from_none p (t ∷ ts) h = cond-false (nat_le p (token_index t)) _ _ (lt-leb p (token_index t) (h 0 (omega arith))) ∙ from_none p ts (λ k l. h (suc k) (omega arith))
 
-from_parts : (d ts : List Fields) → Rises (d ++ ts) → 0 < length ts → shown_from (own (token_at ts 0)) (d ++ ts) ≡ ts
+from_parts : (d ts : List Fields) → Rises (d ++ ts) → 0 < length ts → shown_from (token_index (token_at ts 0)) (d ++ ts) ≡ ts
 from_parts d ts rises some =
-    filter-append (λ t. nat_le (own (token_at ts 0)) (own t)) d ts
-    ∙ ap (λ xs. xs ++ shown_from (own (token_at ts 0)) ts) (from_none _ d before)
+    filter-append (λ t. nat_le (token_index (token_at ts 0)) (token_index t)) d ts
+    ∙ ap (λ xs. xs ++ shown_from (token_index (token_at ts 0)) ts) (from_none _ d before)
     ∙ from_all _ ts after
   where
-    at : (k : ℕ) → own (token_at (d ++ ts) (length d + k)) ≡ own (token_at ts k)
-    at k = ap own (get_or-append-add d ts k no_token)
+    at : (k : ℕ) → token_index (token_at (d ++ ts) (length d + k)) ≡ token_index (token_at ts k)
+    at k = ap token_index (get_or-append-add d ts k no_token)
 
-    before : (k : ℕ) → k < length d → own (token_at d k) < own (token_at ts 0)
-    before k l = omega (arith, ap own (get_or_append_left d ts no_token k l), at 0, rises k (length d + 0) (omega arith) (omega (arith, length-append d ts)))
+    before : (k : ℕ) → k < length d → token_index (token_at d k) < token_index (token_at ts 0)
+    before k l = omega (arith, ap token_index (get_or_append_left d ts no_token k l), at 0, rises k (length d + 0) (omega arith) (omega (arith, length-append d ts)))
 
-    after : (k : ℕ) → k < length ts → own (token_at ts 0) ≤ own (token_at ts k)
+    after : (k : ℕ) → k < length ts → token_index (token_at ts 0) ≤ token_index (token_at ts k)
     after k l = at_zero (cases_eq k 0)
       where
-        at_zero : (k ≡ 0) ⊎ (k ≡ 0 → ⊥) → own (token_at ts 0) ≤ own (token_at ts k)
-        at_zero (inl e) = le_of_eq (ap (λ i. own (token_at ts i)) (sym e))
+        at_zero : (k ≡ 0) ⊎ (k ≡ 0 → ⊥) → token_index (token_at ts 0) ≤ token_index (token_at ts k)
+        at_zero (inl e) = le_of_eq (ap (λ i. token_index (token_at ts i)) (sym e))
         at_zero (inr ne) = omega (arith, at 0, at k, rises (length d + 0) (length d + k) (omega arith) (omega (arith, length-append d ts)))
 
 -- What is shown is what was shown first, from the place of its first token on.
-pub onward_from : (old new : List Fields) → Rises old → Onward old new → new ≡ shown_from (own (token_at new 0)) old
-onward_from old new rises o = sym (ap (shown_from (own (token_at new 0))) o.parts ∙ from_parts o.dropped new (subst Rises o.parts rises) o.some)
+pub onward_from : (old new : List Fields) → Rises old → Onward old new → new ≡ shown_from (token_index (token_at new 0)) old
+onward_from old new rises o = sym (ap (shown_from (token_index (token_at new 0))) o.parts ∙ from_parts o.dropped new (subst Rises o.parts rises) o.some)
 
-next_at : (ts old : List Fields) (p : ℕ) → shown_from p old ≡ ts → own (token_at ts 0) ≡ p → 0 < length ts → next_place old p ≡ own (token_at (passed ts) 0)
+next_at : (ts old : List Fields) (p : ℕ) → shown_from p old ≡ ts → token_index (token_at ts 0) ≡ p → 0 < length ts → next_place old p ≡ token_index (token_at (passed ts) 0)
 next_at [] old p e same some = absurd (omega arith)
-next_at (t ∷ ts) old p e same some = rw e (elim (is_eof t.typ) as (λ b. (if b then p else own (token_at ts 0)) ≡ own (token_at (if b then t ∷ ts else ts) 0)) [ true ↦ sym same | false ↦ refl ])
+next_at (t ∷ ts) old p e same some = rw e (elim (is_eof t.typ) as (λ b. (if b then p else token_index (token_at ts 0)) ≡ token_index (token_at (if b then t ∷ ts else ts) 0)) [ true ↦ sym same | false ↦ refl ])
 
-pub onward_next : (old new : List Fields) → Rises old → Onward old new → next_place old (own (token_at new 0)) ≡ own (token_at (passed new) 0)
+pub onward_next : (old new : List Fields) → Rises old → Onward old new → next_place old (token_index (token_at new 0)) ≡ token_index (token_at (passed new) 0)
 onward_next old new rises o = next_at new old _ (sym (onward_from old new rises o)) refl o.some
 
 pub onward_rises : (old new : List Fields) → Rises old → Onward old new → Rises new
 onward_rises old new rises o j k less inside =
     omega (arith, at j, at k, subst Rises o.parts rises (length o.dropped + j) (length o.dropped + k) (omega arith) (omega (arith, length-append o.dropped new)))
   where
-    at : (k : ℕ) → own (token_at (o.dropped ++ new) (length o.dropped + k)) ≡ own (token_at new k)
-    at k = ap own (get_or-append-add o.dropped new k no_token)
+    at : (k : ℕ) → token_index (token_at (o.dropped ++ new) (length o.dropped + k)) ≡ token_index (token_at new k)
+    at k = ap token_index (get_or-append-add o.dropped new k no_token)
 
 -- a token that is not EOF is passed, and another place is reached
-pub passed_moves : (ts : List Fields) → EndsInEof ts → Rises ts → is_eof (token_at ts 0).typ ≡ false → own (token_at (passed ts) 0) ≡ own (token_at ts 0) → ⊥
+pub passed_moves : (ts : List Fields) → EndsInEof ts → Rises ts → is_eof (token_at ts 0).typ ≡ false → token_index (token_at (passed ts) 0) ≡ token_index (token_at ts 0) → ⊥
 passed_moves [] ends rises e same = omega (arith, ends.some)
 passed_moves (t ∷ []) ends rises e same = both_ways _ e (ends.last 0 refl)
 passed_moves (t ∷ u ∷ us) ends rises e same =
-    let other : own u ≡ own t = ap (λ xs. own (token_at xs 0)) (sym (cond-false (is_eof t.typ) (t ∷ u ∷ us) (u ∷ us) e)) ∙ same in
+    let other : token_index u ≡ token_index t = ap (λ xs. token_index (token_at xs 0)) (sym (cond-false (is_eof t.typ) (t ∷ u ∷ us) (u ∷ us) e)) ∙ same in
     omega (arith, other, rises 0 1 (omega arith) (omega arith))
 
--- each has its own index
+-- each has its token index
 abbrev pub Numbered : List Fields → Type 0
-Numbered ts = (k : ℕ) → k < length ts → (token_at ts k).index ≡ Some (own (token_at ts k))
+Numbered ts = (k : ℕ) → k < length ts → (token_at ts k).index ≡ Some (token_index (token_at ts k))
 
 pub onward_numbered : (old new : List Fields) → Numbered old → Onward old new → Numbered new
 onward_numbered old new named o k l =
-    subst (λ t. t.index ≡ Some (own t)) (get_or-append-add o.dropped new k no_token) (subst Numbered o.parts named (length o.dropped + k) (omega (arith, length-append o.dropped new)))
+    subst (λ t. t.index ≡ Some (token_index t)) (get_or-append-add o.dropped new k no_token) (subst Numbered o.parts named (length o.dropped + k) (omega (arith, length-append o.dropped new)))
 
 -- past EOF nothing else is ahead
 pub ahead_of_eof : (ts : List Fields) → EndsInEof ts → is_eof (token_at ts 0).typ ≡ true → shown_at ts (pos 2) ≡ shown_at ts (pos 1)

@@ -8,7 +8,7 @@ use Rattle.token.specs.Tokens.{Fields, type_number, index_number}
 use Rattle.recovery_model.specs.declared.call.Call.{Call}
 use Rattle.recovery_model.specs.declared.call.Call.TheVariants.{State, Enter, Leave, Match, Wildcard, Sync, Report, Recover}
 use Rattle.recovery_model.specs.declared.answer.Mismatch.{Mismatch as MismatchAnswer}
-use Rattle.recovery_model.specs.declared.answer.Answer.{Answer}
+use Rattle.recovery_model.specs.declared.answer.Answer.{Answer as AnswerRecord}
 use Rattle.recovery_model.specs.declared.answer.Answer.TheVariants as answer
 
 abbrev pub call_number : Call → ℕ
@@ -53,42 +53,42 @@ abbrev pub is_recover_call : Call → Bool
 is_recover_call c = call_number c == 8
 
 -- a token that did not match, and where the parser stood: its state, and the invoking states of its open rules
-pub record Kept : Type 0 where
+pub record InputMismatch : Type 0 where
   pub token : Fields
   pub state : ℕ
   pub chain : List ℕ
 
-abbrev pub kept : MismatchAnswer → Kept
-kept m = record { token = m.token; state = m.state; chain = items m.chain }
+abbrev pub input_mismatch : MismatchAnswer → InputMismatch
+input_mismatch m = record { token = m.token; state = m.state; chain = items m.chain }
 
 -- what a call answers
-pub data Said : Type 0 where
-  Done : Said
-  Left : ℕ → Said
-  Token : Fields → Said
-  Mismatch : Kept → Said
-  Denied : Denial → Said
+pub data Answer : Type 0 where
+  Done : Answer
+  Left : ℕ → Answer
+  Token : Fields → Answer
+  Mismatch : InputMismatch → Answer
+  Denied : Denial → Answer
 
-abbrev pub said : Answer → Said
-said answer.Done = Done
-said (answer.Left n) = Left n
-said (answer.Token t) = Token t
-said (answer.Mismatch m) = Mismatch (kept m)
-said (answer.Denied d) = Denied d
+abbrev pub answer_of : AnswerRecord → Answer
+answer_of answer.Done = Done
+answer_of (answer.Left n) = Left n
+answer_of (answer.Token t) = Token t
+answer_of (answer.Mismatch m) = Mismatch (input_mismatch m)
+answer_of (answer.Denied d) = Denied d
 
-abbrev pub answer_number : Said → ℕ
+abbrev pub answer_number : Answer → ℕ
 answer_number Done = 1
 answer_number (Left n) = 2
 answer_number (Token t) = 3
 answer_number (Mismatch m) = 4
 answer_number (Denied d) = 5
 
--- type, own index, line and column
+-- type, token index, line and column
 abbrev pub token_values : Fields → List ℤ
 token_values t = type_number t.typ ∷ index_number t.index ∷ pos t.position.0 ∷ pos t.position.1 ∷ []
 
 -- the values of an answer: of a mismatch the token's, the state and the chain
-abbrev pub answer_values : Said → List ℤ
+abbrev pub answer_values : Answer → List ℤ
 answer_values Done = []
 answer_values (Left n) = pos n ∷ []
 answer_values (Token t) = token_values t

@@ -26,23 +26,23 @@ abbrev pub is_elsewhere : Net → ℕ → View → Bool
 is_elsewhere n s v = not (nat_lt s (size n)) || not ((state_at n s).rule == innermost v.open_rules) || is_stop (state_at n s).kind
 
 -- an edge that calls the rule
-abbrev pub calls : ℕ → List Transition → Bool
-calls r [] = false
-calls r (e ∷ es) = at e.kind
+abbrev pub first_calls : ℕ → List Transition → Bool
+first_calls r [] = false
+first_calls r (e ∷ es) = at e.kind
   where
     at : TransitionKind → Bool
     at (Rule q follow) = q == r
     at kind = false
 
 abbrev pub is_called : Net → ℕ → View → Bool
-is_called n r v = calls r (edges_of n (here v))
+is_called n r v = first_calls r (edges_of n (here v))
 
 -- a type is -1, which is EOF, or 0 to 255
-abbrev pub is_type : ℤ → Bool
-is_type t = not (int_lt t (negsuc 0)) && not (int_lt (pos 255) t)
+abbrev pub is_token_type : ℤ → Bool
+is_token_type t = not (int_lt t (negsuc 0)) && not (int_lt (pos 255) t)
 
 abbrev pub may_report : ℕ → View → Bool
-may_report k v = (k == 1) || (k == 3) || ((k == 2) && not (is_none v.kept))
+may_report k v = (k == 1) || (k == 3) || ((k == 2) && not (is_none v.input_mismatch))
 
 -- more leaves are needed than are free
 abbrev pub too_few : ℕ → View → Bool
@@ -53,7 +53,7 @@ abbrev pub faults : Net → WithinSets → Call → View → List (Denial × Boo
 faults n w (State s) v = (NoRuleOpen, none_open v) ∷ (StateOutside, is_elsewhere n s v) ∷ []
 faults n w (Enter r) v = (OutsideLimits, not (nat_lt r (length n.rules))) ∷ (WrongRule, not (none_open v) && not (is_called n r v)) ∷ (TooManyRules, length v.open_rules == 64) ∷ []
 faults n w Leave v = (NoRuleOpen, none_open v) ∷ []
-faults n w (Match t) v = (OutsideLimits, not (is_type t)) ∷ (NoRuleOpen, none_open v) ∷ (NoLeafFree, too_few (match_leaves (fits (Match t) (ahead v 1)) n w v) v) ∷ []
+faults n w (Match t) v = (OutsideLimits, not (is_token_type t)) ∷ (NoRuleOpen, none_open v) ∷ (NoLeafFree, too_few (match_leaves (fits (Match t) (ahead v 1)) n w v) v) ∷ []
 faults n w Wildcard v = (NoRuleOpen, none_open v) ∷ (NoLeafFree, too_few (match_leaves (fits Wildcard (ahead v 1)) n w v) v) ∷ []
 faults n w Sync v = (NoRuleOpen, none_open v) ∷ (NoLeafFree, too_few (sync_leaves n w v) v) ∷ (WrongSearch, is_misplaced n w v) ∷ []
 faults n w (Report k) v = (NoRuleOpen, none_open v) ∷ (WrongReport, not (may_report k v)) ∷ []

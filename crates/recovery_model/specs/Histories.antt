@@ -4,12 +4,12 @@ use Rattle.std.specs.Prelude.{ℕ, Bool, true, false, not, ◌&&◌, ◌==◌, L
 use Rattle.std.specs.List.{flat_map}
 use Rattle.atn_graph.specs.Net.{Net, rule_at, state_at}
 use Rattle.ll1_analyzer.specs.Chains.{follow_states}
-use Rattle.token.specs.Tokens.{Fields, type_number, own, is_eof}
+use Rattle.token.specs.Tokens.{Fields, type_number, token_index, is_eof}
 use Rattle.token_stream.specs.Tapes.{token_at}
 use Rattle.recovery_model.specs.declared.call.Call.{Call}
 use Rattle.recovery_model.specs.declared.call.Call.TheVariants.{State, Enter, Leave}
-use Rattle.recovery_model.specs.Calls.{Said, Token, Denied, takes_token, is_sync, is_report, is_recover_call}
-use Rattle.recovery_model.specs.Journals.{Happened}
+use Rattle.recovery_model.specs.Calls.{Answer, Token, Denied, takes_token, is_sync, is_report, is_recover_call}
+use Rattle.recovery_model.specs.Journals.{Event}
 use Rattle.recovery_model.specs.Sets.{WithinSets}
 use Rattle.recovery_model.specs.Syncs.{Choice, Begins, GoesBack, choice}
 
@@ -18,7 +18,7 @@ pub record Standing : Type 0 where
   pub state : Option ℕ
   pub invoking : List (Option ℕ)
 
-abbrev pub is_accepted : Said → Bool
+abbrev pub is_accepted : Answer → Bool
 is_accepted (Denied d) = false
 is_accepted a = true
 
@@ -33,20 +33,20 @@ moved n Leave p = at p.invoking
 moved n c p = p
 
 -- Accepted state, enter and leave calls move the parser, and nothing else does.
-abbrev pub standing : Net → List Happened → Standing
+abbrev pub standing : Net → List Event → Standing
 standing n [] = record { state = None; invoking = [] }
 standing n (e ∷ h) = if is_accepted e.answer then moved n e.call (standing n h) else standing n h
 
-abbrev pub present : Net → List Happened → ℕ
+abbrev pub present : Net → List Event → ℕ
 present n h = unwrap_or (standing n h).state 0
 
 -- the follow states of the open rules
-abbrev pub open_follows : Net → List Happened → List ℕ
+abbrev pub open_follows : Net → List Event → List ℕ
 open_follows n h = follow_states n (flat_map option_to_list (standing n h).invoking)
 
--- the tokens that are shown from a place on, of those shown at the making
+-- the tokens that are shown from a place on, of those shown at construction
 abbrev pub shown_from : ℕ → List Fields → List Fields
-shown_from p ts = filter (λ t. nat_le p (own t)) ts
+shown_from p ts = filter (λ t. nat_le p (token_index t)) ts
 
 -- the place after the token at p: that of the next token shown, or of EOF itself
 abbrev pub next_place : List Fields → ℕ → ℕ
@@ -54,10 +54,10 @@ next_place ts p = at (shown_from p ts)
   where
     at : List Fields → ℕ
     at [] = p
-    at (t ∷ us) = if is_eof t.typ then p else own (token_at us 0)
+    at (t ∷ us) = if is_eof t.typ then p else token_index (token_at us 0)
 
 -- a token of the tape is answered: one that is not made up
-abbrev pub is_of_the_tape : Said → Bool
+abbrev pub is_of_the_tape : Answer → Bool
 is_of_the_tape (Token t) = at t.index
   where
     at : Option ℕ → Bool
@@ -72,17 +72,17 @@ begins_choice n s = at (choice (state_at n s).kind)
     at Begins = true
     at c = false
 
--- Repair is ended by a call that takes a token and answers one of the tape, and by a sync where a choice begins that passes a
+-- The error condition is ended by a call that takes a token and answers one of the tape, and by a sync where a choice begins that passes a
 -- token.
-abbrev pub ends_repair : Net → List Happened → Happened → Bool
-ends_repair n h e =
+abbrev pub ends_error_condition : Net → List Event → Event → Bool
+ends_error_condition n h e =
     is_accepted e.answer
     && (if takes_token e.call then is_of_the_tape e.answer else is_sync e.call && (begins_choice n (present n h) && not (e.after == e.before)))
 
 -- a made-up token is answered
-abbrev pub is_made_up : Said → Bool
-is_made_up (Token t) = is_none t.index
-is_made_up a = false
+abbrev pub is_missing_symbol : Answer → Bool
+is_missing_symbol (Token t) = is_none t.index
+is_missing_symbol a = false
 
 -- the state is on the way back of a loop
 abbrev pub goes_back : Net → ℕ → Bool
@@ -96,35 +96,35 @@ goes_back n s = at (choice (state_at n s).kind)
 abbrev pub is_unfit : WithinSets → List Fields → ℕ → ℕ → Bool
 is_unfit w ts s p = not (w.types s (type_number (token_at (shown_from p ts) 0).typ)) && not (w.end s)
 
--- A fault is reported, unless repair goes on already: by a call that takes a token and answers a made-up one, by a sync on the
+-- A fault is reported, unless there is an error condition already: by a call that takes a token and answers a made-up one, by a sync on the
 -- way back of a loop where the token first shown does not fit, and by a report.
-abbrev pub begins_repair : Net → WithinSets → List Fields → List Happened → Happened → Bool
-begins_repair n w ts h e =
+abbrev pub begins_error_condition : Net → WithinSets → List Fields → List Event → Event → Bool
+begins_error_condition n w ts h e =
     is_accepted e.answer
-    && (if takes_token e.call then is_made_up e.answer
+    && (if takes_token e.call then is_missing_symbol e.answer
     else if is_sync e.call then goes_back n (present n h) && is_unfit w ts (present n h) e.before
     else is_report e.call)
 
--- a fault was reported since repair was last ended
-abbrev pub repairing : Net → WithinSets → List Fields → List Happened → Bool
-repairing n w ts [] = false
-repairing n w ts (e ∷ h) = if ends_repair n h e then false else if begins_repair n w ts h e then true else repairing n w ts h
+-- a fault was reported since the error condition was last ended
+abbrev pub in_error_condition : Net → WithinSets → List Fields → List Event → Bool
+in_error_condition n w ts [] = false
+in_error_condition n w ts (e ∷ h) = if ends_error_condition n h e then false else if begins_error_condition n w ts h e then true else in_error_condition n w ts h
 
-abbrev pub is_recover : Happened → Bool
+abbrev pub is_recover : Event → Bool
 is_recover e = is_accepted e.answer && is_recover_call e.call
 
--- a recover was called in the state since repair was last ended
-abbrev pub recovered_in : Net → List Happened → ℕ → Bool
+-- a recover was called in the state since the error condition was last ended
+abbrev pub recovered_in : Net → List Event → ℕ → Bool
 recovered_in n [] s = false
-recovered_in n (e ∷ h) s = if ends_repair n h e then false else if is_recover e && (present n h == s) then true else recovered_in n h s
+recovered_in n (e ∷ h) s = if ends_error_condition n h e then false else if is_recover e && (present n h == s) then true else recovered_in n h s
 
--- From where the latest recover since repair was last ended searched, if there was one: from the token first shown at its
--- call, or from the one after it if the guard skipped that. The guard skips if the recover before it searched from the token
+-- From where the latest recover since the error condition was last ended searched, if there was one: from the token first shown at its
+-- call, or from the one after it if the failsafe skipped that. The failsafe skips if the recover before it searched from the token
 -- now first shown, and one of them was called in the present state.
-abbrev pub latest_search : Net → List Fields → List Happened → Option ℕ
+abbrev pub latest_search : Net → List Fields → List Event → Option ℕ
 latest_search n ts [] = None
 latest_search n ts (e ∷ h) =
-    if ends_repair n h e then None
+    if ends_error_condition n h e then None
     else if is_recover e then Some (if is_place (latest_search n ts h) e.before && recovered_in n h (present n h) then next_place ts e.before else e.before)
     else latest_search n ts h
   where
@@ -132,7 +132,7 @@ latest_search n ts (e ∷ h) =
     is_place None p = false
     is_place (Some q) p = q == p
 
-abbrev pub skips : Net → List Fields → List Happened → Happened → Bool
+abbrev pub skips : Net → List Fields → List Event → Event → Bool
 skips n ts h e = at (latest_search n ts h) && recovered_in n h (present n h)
   where
     at : Option ℕ → Bool
@@ -140,5 +140,5 @@ skips n ts h e = at (latest_search n ts h) && recovered_in n h (present n h)
     at (Some q) = q == e.before
 
 -- where a recover searches from
-abbrev pub searched_from : Net → List Fields → List Happened → Happened → ℕ
+abbrev pub searched_from : Net → List Fields → List Event → Event → ℕ
 searched_from n ts h e = if skips n ts h e then next_place ts e.before else e.before

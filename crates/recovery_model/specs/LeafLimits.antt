@@ -4,10 +4,10 @@ use Rattle.token.specs.declared.token_type.TokenType.{TokenType}
 use Rattle.token.specs.Tokens.{Fields, type_number}
 use Rattle.token_stream.specs.Tapes.{token_at}
 use Rattle.records.specs.declared.leaf.LeafKind.{LeafKind}
-use Rattle.records.specs.Leaves.{Said, LeafFits}
+use Rattle.records.specs.Leaves.{LeafFields, LeafFits}
 
 -- the leaf with these fields
-abbrev pub leaf_of : LeafKind → ℕ → ℕ → TokenType → Option ℕ → ℕ × ℕ → Said
+abbrev pub leaf_of : LeafKind → ℕ → ℕ → TokenType → Option ℕ → ℕ × ℕ → LeafFields
 leaf_of kind depth rule typ index position = record { kind = kind; depth = depth; rule = rule; typ = typ; index = index; line = position.0; column = position.1 }
 
 -- What a leaf says beside its token's place is within the limits: the depth, the rule and the type.
@@ -18,13 +18,13 @@ pub record RestFits (d r : ℕ) (t : TokenType) : Type 0 where
   pub typ : type_number t ≤ℤ pos 255
 
 -- a leaf of a token that is shown
-abbrev pub ShownFit : List Fields → Type 0
-ShownFit shown =
+abbrev pub ShownFits : List Fields → Type 0
+ShownFits shown =
     (k : ℕ) → k < length shown → (kind : LeafKind) (depth rule : ℕ) → RestFits depth rule (token_at shown k).typ →
     LeafFits (leaf_of kind depth rule (token_at shown k).typ (token_at shown k).index (token_at shown k).position)
 
--- a leaf of a token that is made up: it has no own index, and the line and column of a token of the tape
-abbrev pub MadeUpFit : List Fields → Type 0
-MadeUpFit tape =
+-- a leaf of a token that is made up: it has no token index, and the line and column of a token of the tape
+abbrev pub MissingSymbolFits : List Fields → Type 0
+MissingSymbolFits tape =
     (k : ℕ) → k < length tape → (kind : LeafKind) (depth rule : ℕ) (typ : TokenType) → RestFits depth rule typ →
     LeafFits (leaf_of kind depth rule typ None (token_at tape k).position)

@@ -12,7 +12,7 @@ pub mod Denials
 pub mod Steps
 pub mod Journals
 pub mod Histories
-pub mod Notes
+pub mod Matching
 pub mod Law
 pub mod TapeLaw
 pub mod Coherent

@@ -5,12 +5,12 @@ use Rattle.token_stream.specs.Streams.{passed}
 use Rattle.records.specs.declared.leaf.LeafKind.{LeafKind}
 use Rattle.records.specs.declared.leaf.LeafKind.TheVariants.{Terminal, Error}
 use Rattle.records.specs.declared.report.ReportKind.{ReportKind}
-use Rattle.records.specs.Leaves.{Said}
+use Rattle.records.specs.Leaves.{LeafFields}
 use Rattle.records.specs.Heard.{Told, told_at}
-use Rattle.recovery_model.specs.declared.notes.Mode.{Mode}
-use Rattle.recovery_model.specs.declared.notes.Mode.TheVariants.{Settled, InRepair}
+use Rattle.recovery_model.specs.declared.strategy_state.Mode.{Mode}
+use Rattle.recovery_model.specs.declared.strategy_state.Mode.TheVariants.{Normal, InErrorRecovery}
 use Rattle.recovery_model.specs.declared.open_rule.OpenRule.{OpenRule}
-use Rattle.recovery_model.specs.Views.{View, current, no_marks}
+use Rattle.recovery_model.specs.Views.{View, current, no_error_states}
 
 -- the innermost open rule
 abbrev pub innermost : List OpenRule → ℕ
@@ -23,7 +23,7 @@ raised [] = []
 raised (o ∷ os) = record o { leaves = min (o.leaves + 1) 4294967295 } ∷ os
 
 -- the leaf of a token
-abbrev pub leaf : LeafKind → Fields → View → Said
+abbrev pub leaf : LeafKind → Fields → View → LeafFields
 leaf kind t v = record { kind = kind; depth = length v.open_rules; rule = innermost v.open_rules; typ = t.typ; index = t.index; line = t.position.0; column = t.position.1 }
 
 abbrev pub add : LeafKind → Fields → View → View
@@ -35,18 +35,18 @@ pub data Reason : Type 0 where
   Deleted : Reason
   Searched : Reason
 
--- in repair a token that is passed is an error
+-- in error recovery a token that is passed is an error
 abbrev pub leaf_kind : Reason → Mode → LeafKind
-leaf_kind Taken Settled = Terminal
-leaf_kind Taken InRepair = Error
-leaf_kind Deleted Settled = Terminal
-leaf_kind Deleted InRepair = Error
-leaf_kind Searched Settled = Terminal
-leaf_kind Searched InRepair = Error
+leaf_kind Taken Normal = Terminal
+leaf_kind Taken InErrorRecovery = Error
+leaf_kind Deleted Normal = Terminal
+leaf_kind Deleted InErrorRecovery = Error
+leaf_kind Searched Normal = Terminal
+leaf_kind Searched InErrorRecovery = Error
 
 -- The current token becomes a leaf, and is dropped unless it is EOF.
 abbrev pub pass : Reason → View → View
-pass why v = record (add (leaf_kind why v.noted.mode) (current v) v) { shown = passed v.shown }
+pass why v = record (add (leaf_kind why v.strategy.mode) (current v) v) { shown = passed v.shown }
 
 abbrev pub pass_many : Reason → ℕ → View → View
 pass_many why zero v = v
@@ -57,24 +57,24 @@ abbrev pub before : (ℤ → Bool) → List Fields → ℕ
 before types [] = 0
 before types (t ∷ ts) = if is_eof t.typ || types (type_number t.typ) then 0 else suc (before types ts)
 
-abbrev pub in_repair : View → Bool
-in_repair v = at v.noted.mode
+abbrev pub in_error_recovery_mode : View → Bool
+in_error_recovery_mode v = at v.strategy.mode
   where
     at : Mode → Bool
-    at Settled = false
-    at InRepair = true
+    at Normal = false
+    at InErrorRecovery = true
 
 -- what is told of a token where these types were expected
 abbrev pub told_of : ReportKind → Fields → (ℤ → Bool) → Told
 told_of kind t types = told_at kind t.index t.position types
 
--- A report begins repair; in repair none is given.
-abbrev pub begun : View → View
-begun v = record v { noted = record v.noted { mode = InRepair } }
+-- A report begins the error condition; in error recovery none is given.
+abbrev pub begin_error_condition : View → View
+begin_error_condition v = record v { strategy = record v.strategy { mode = InErrorRecovery } }
 
 abbrev pub given : Told → View → List Told
-given t v = if in_repair v then [] else t ∷ []
+given t v = if in_error_recovery_mode v then [] else t ∷ []
 
--- Repair is ended: mode, place and marks are cleared, and the saved pair stays.
-abbrev pub ended : View → View
-ended v = record v { noted = record v.noted { mode = Settled; last = None; marks = no_marks } }
+-- The error condition is ended: mode, place and marks are cleared, and the saved pair stays.
+abbrev pub end_error_condition : View → View
+end_error_condition v = record v { strategy = record v.strategy { mode = Normal; last_error_index = None; last_error_states = no_error_states } }

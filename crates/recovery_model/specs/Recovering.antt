@@ -9,29 +9,29 @@ use Rattle.recovery_model.specs.Outcomes.{Outcome, does}
 
 -- the last search began at this place
 abbrev pub searched_here : View → Bool
-searched_here v = at v.noted.last
+searched_here v = at v.strategy.last_error_index
   where
     at : Option ℕ → Bool
     at None = false
     at (Some p) = p == place v
 
--- The repeat guard: it searched from here already, in this state, and stands here again.
-abbrev pub repeats : View → Bool
-repeats v = searched_here v && slice_index_or v.noted.marks (here v) false
+-- The failsafe: it searched from here already, in this state, and stands here again.
+abbrev pub failsafe_applies : View → Bool
+failsafe_applies v = searched_here v && slice_index_or v.strategy.last_error_states (here v) false
 
 -- what is passed first where it repeats itself
-abbrev pub unstuck : View → View
-unstuck v = if repeats v then pass Searched v else v
+abbrev pub failsafe : View → View
+failsafe v = if failsafe_applies v then pass Searched v else v
 
 -- the search is noted, with its place and its state
 abbrev pub searching : View → View
-searching v = record v { noted = record v.noted { last = Some (place v); marks = slice_set v.noted.marks (here v) true } }
+searching v = record v { strategy = record v.strategy { last_error_index = Some (place v); last_error_states = slice_set v.strategy.last_error_states (here v) true } }
 
 abbrev pub search_length : Net → WithinSets → View → ℕ
 search_length n w v = before (recovery w (follows n v)) v.shown
 
-abbrev pub recovers : Net → WithinSets → View → Outcome
-recovers n w v = let u = searching (unstuck v) in does (pass_many Searched (search_length n w u) u) Done
+abbrev pub recover : Net → WithinSets → View → Outcome
+recover n w v = let u = searching (failsafe v) in does (pass_many Searched (search_length n w u) u) Done
 
 abbrev pub recover_leaves : Net → WithinSets → View → ℕ
-recover_leaves n w v = (if repeats v then 1 else 0) + search_length n w (unstuck v)
+recover_leaves n w v = (if failsafe_applies v then 1 else 0) + search_length n w (failsafe v)

@@ -8,10 +8,10 @@ use Rattle.records.specs.Reports.{smallest_type}
 use Rattle.token.specs.declared.token_type.Span.{Span}
 use Rattle.token.specs.Tokens.{Fields, is_eof, kept_span}
 use Rattle.token_stream.specs.Tapes.{token_at}
-use Rattle.recovery_model.specs.Calls.{Kept, Token, Mismatch}
+use Rattle.recovery_model.specs.Calls.{InputMismatch, Token, Mismatch}
 use Rattle.recovery_model.specs.Sets.{WithinSets, expected}
 use Rattle.recovery_model.specs.Views.{View, Pair, current, place, ahead, here, follows, own_pair}
-use Rattle.recovery_model.specs.Passing.{Taken, Deleted, add, pass, told_of, begun, given, ended}
+use Rattle.recovery_model.specs.Passing.{Taken, Deleted, add, pass, told_of, begin_error_condition, given, end_error_condition}
 use Rattle.recovery_model.specs.Outcomes.{Outcome, does, telling}
 
 -- the types that are expected here, by the state and the open rules
@@ -23,8 +23,8 @@ abbrev pub next_state : Net → ℕ → ℕ
 next_state n s = (get_or (edges_of n s) 0 no_edge).target
 
 -- One token is too many: the token after the current one is what is expected.
-abbrev pub is_extra : Net → WithinSets → View → Bool
-is_extra n w v = expects n w v (ahead v 2)
+abbrev pub is_unwanted : Net → WithinSets → View → Bool
+is_unwanted n w v = expects n w v (ahead v 2)
 
 -- One token is missing: the current one is what may come after it.
 abbrev pub is_missing : Net → WithinSets → View → Bool
@@ -38,48 +38,48 @@ abbrev pub nowhere : Span
 nowhere = record { start = negsuc 0; stop = negsuc 0 }
 
 -- The token that is missing, made up: of the smallest expected type.
-abbrev pub made_up : Net → WithinSets → View → Fields
-made_up n w v = record { typ = smallest_type (expects n w v); channel = 0; index = None; position = (near v).position; span = kept_span v.has_span nowhere }
+abbrev pub missing_symbol : Net → WithinSets → View → Fields
+missing_symbol n w v = record { typ = smallest_type (expects n w v); channel = 0; index = None; position = (near v).position; span = kept_span v.has_span nowhere }
 
 -- what is told of a token that is too many, and of one that is missing
-abbrev pub unwanted : Net → WithinSets → View → Told
-unwanted n w v = told_of UnwantedToken (current v) (expects n w v)
+abbrev pub unwanted_token : Net → WithinSets → View → Told
+unwanted_token n w v = told_of UnwantedToken (current v) (expects n w v)
 
-abbrev pub missing : Net → WithinSets → View → Told
-missing n w v = told_of MissingToken (current v) (expects n w v)
+abbrev pub missing_token : Net → WithinSets → View → Told
+missing_token n w v = told_of MissingToken (current v) (expects n w v)
 
--- Repair is begun by the report of the current token, which is passed, and ended.
-abbrev pub struck : View → View
-struck v = ended (pass Deleted (begun v))
+-- The error condition is begun by the report of the current token, which is passed, and ended.
+abbrev pub single_token_deletion : View → View
+single_token_deletion v = end_error_condition (pass Deleted (begin_error_condition v))
 
--- Repair is begun by the report of the missing token, which becomes an error leaf.
-abbrev pub inserted : Net → WithinSets → View → View
-inserted n w v = add Error (made_up n w v) (begun v)
+-- The error condition is begun by the report of the missing token, which becomes an error leaf.
+abbrev pub single_token_insertion : Net → WithinSets → View → View
+single_token_insertion n w v = add Error (missing_symbol n w v) (begin_error_condition v)
 
 -- The current token is a mismatch at that pair, and it is kept.
-abbrev pub mismatch_at : Pair → View → Kept
+abbrev pub mismatch_at : Pair → View → InputMismatch
 mismatch_at p v = record { token = current v; state = p.state; chain = p.chain }
 
-abbrev pub mismatches : Kept → View → Outcome
-mismatches m v = does (record v { kept = Some m }) (Mismatch m)
+abbrev pub mismatches : InputMismatch → View → Outcome
+mismatches m v = does (record v { input_mismatch = Some m }) (Mismatch m)
 
 -- The current token is passed and answered.
-abbrev pub takes : View → Outcome
-takes v = does (pass Taken v) (Token (current v))
+abbrev pub take_token : View → Outcome
+take_token v = does (pass Taken v) (Token (current v))
 
-abbrev pub repairs : Net → WithinSets → View → Outcome
-repairs n w v =
-    if is_extra n w v then telling (given (unwanted n w v) v) (takes (struck v))
-    else if is_missing n w v then telling (given (missing n w v) v) (does (inserted n w v) (Token (made_up n w v)))
-    else mismatches (mismatch_at (unwrap_or v.noted.saved (own_pair v)) v) v
+abbrev pub recover_inline : Net → WithinSets → View → Outcome
+recover_inline n w v =
+    if is_unwanted n w v then telling (given (unwanted_token n w v) v) (take_token (single_token_deletion v))
+    else if is_missing n w v then telling (given (missing_token n w v) v) (does (single_token_insertion n w v) (Token (missing_symbol n w v)))
+    else mismatches (mismatch_at (unwrap_or v.strategy.next_tokens (own_pair v)) v) v
 
 -- how many leaves a repair adds
-abbrev pub repair_leaves : Net → WithinSets → View → ℕ
-repair_leaves n w v = if is_extra n w v then 2 else if is_missing n w v then 1 else 0
+abbrev pub recover_inline_leaves : Net → WithinSets → View → ℕ
+recover_inline_leaves n w v = if is_unwanted n w v then 2 else if is_missing n w v then 1 else 0
 
--- A token that is what is asked for ends repair and is taken; for any other the parser repairs.
+-- A token that is what is asked for ends the error condition and is taken; for any other the parser repairs.
 abbrev pub matched : Bool → Net → WithinSets → View → Outcome
-matched fit n w v = if fit then takes (ended v) else repairs n w v
+matched fit n w v = if fit then take_token (end_error_condition v) else recover_inline n w v
 
 abbrev pub match_leaves : Bool → Net → WithinSets → View → ℕ
-match_leaves fit n w v = if fit then 1 else repair_leaves n w v
+match_leaves fit n w v = if fit then 1 else recover_inline_leaves n w v

@@ -5,7 +5,7 @@ use Rattle.std.specs.Ordering.{int_eq}
 use Rattle.atn_graph.specs.Net.{Net}
 use Rattle.ll1_analyzer.specs.Sets.{eof, epsilon, Types, CanEnd}
 
--- Of each state: with which types walks on an empty pile can end, and whether one can end on a stop state.
+-- Of each state: with which types walks on an empty stack can end, and whether one can end on a stop state.
 pub record WithinSets : Type 0 where
   pub types : ℕ → ℤ → Bool
   pub end : ℕ → Bool

@@ -3,19 +3,19 @@ use Rattle.std.specs.Prelude.{◌≡◌, ℕ, ◌==◌, List, [], ◌∷◌, Opt
 use Rattle.errors.specs.declared.denial.Denial.{Denial}
 use Rattle.atn_graph.specs.Net.{Net, rule_at}
 use Rattle.ll1_analyzer.specs.Chains.{follow_states}
-use Rattle.records.specs.declared.report.ReportKind.TheVariants.{NoViableAlternative, InputMismatch, FailedPredicate}
+use Rattle.records.specs.declared.report.ReportKind.TheVariants.{NoViableAlternative, InputMismatch as MismatchReport, FailedPredicate}
 use Rattle.records.specs.Heard.{Told}
 use Rattle.recovery_model.specs.declared.call.Call.{Call}
 use Rattle.recovery_model.specs.declared.call.Call.TheVariants.{State, Enter, Leave, Match, Wildcard, Sync, Report, Recover}
 use Rattle.recovery_model.specs.declared.open_rule.OpenRule.{OpenRule}
-use Rattle.recovery_model.specs.Calls.{Kept, Done, Left, Denied, fits}
+use Rattle.recovery_model.specs.Calls.{InputMismatch, Done, Left, Denied, fits}
 use Rattle.recovery_model.specs.Sets.{WithinSets, expected, no_types}
 use Rattle.recovery_model.specs.Views.{View, current, ahead}
-use Rattle.recovery_model.specs.Passing.{told_of, begun, given}
+use Rattle.recovery_model.specs.Passing.{told_of, begin_error_condition, given}
 use Rattle.recovery_model.specs.Outcomes.{Outcome, does, telling}
 use Rattle.recovery_model.specs.Repairs.{matched}
-use Rattle.recovery_model.specs.Syncs.{syncs}
-use Rattle.recovery_model.specs.Recovering.{recovers}
+use Rattle.recovery_model.specs.Syncs.{sync}
+use Rattle.recovery_model.specs.Recovering.{recover}
 use Rattle.recovery_model.specs.Denials.{denial}
 
 -- The rule is opened, with the state as its invoking state, and its start state is set.
@@ -31,19 +31,19 @@ left v = at v.open_rules
     at (o ∷ os) = does (record v { state = o.invoking; open_rules = os }) (Left o.leaves)
 
 -- what is told of the mismatch that is kept: the types that were expected where it arose
-abbrev pub mismatched : Net → WithinSets → Kept → Told
-mismatched n w m = told_of InputMismatch m.token (expected w m.state (follow_states n m.chain))
+abbrev pub mismatched : Net → WithinSets → InputMismatch → Told
+mismatched n w m = told_of MismatchReport m.token (expected w m.state (follow_states n m.chain))
 
 abbrev pub reporting : Told → View → Outcome
-reporting t v = telling (given t v) (does (begun v) Done)
+reporting t v = telling (given t v) (does (begin_error_condition v) Done)
 
 -- Kind 1 is no viable alternative, 2 the mismatch that is kept, 3 a failed predicate. Kinds 1 and 3 tell no expected types.
 abbrev pub reports : Net → WithinSets → ℕ → View → Outcome
 reports n w k v =
-    if k == 2 then at v.kept
+    if k == 2 then at v.input_mismatch
     else reporting (told_of (if k == 1 then NoViableAlternative else FailedPredicate) (current v) no_types) v
   where
-    at : Option Kept → Outcome
+    at : Option InputMismatch → Outcome
     at None = does v Done
     at (Some m) = reporting (mismatched n w m) v
 
@@ -54,9 +54,9 @@ accepted n w (Enter r) v = does (entered n r v) Done
 accepted n w Leave v = left v
 accepted n w (Match t) v = matched (fits (Match t) (ahead v 1)) n w v
 accepted n w Wildcard v = matched (fits Wildcard (ahead v 1)) n w v
-accepted n w Sync v = syncs n w v
+accepted n w Sync v = sync n w v
 accepted n w (Report k) v = reports n w k v
-accepted n w Recover v = recovers n w v
+accepted n w Recover v = recover n w v
 
 -- what a denied call does: nothing
 abbrev pub refused : Denial → View → View

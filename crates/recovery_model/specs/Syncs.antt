@@ -6,9 +6,9 @@ use Rattle.atn_graph.specs.Net.{Net, state_at}
 use Rattle.recovery_model.specs.Calls.{Done}
 use Rattle.recovery_model.specs.Sets.{WithinSets, recovery}
 use Rattle.recovery_model.specs.Views.{View, ahead, here, follows, own_pair}
-use Rattle.recovery_model.specs.Passing.{Searched, before, pass_many, in_repair, begun, given}
+use Rattle.recovery_model.specs.Passing.{Searched, before, pass_many, in_error_recovery_mode, begin_error_condition, given}
 use Rattle.recovery_model.specs.Outcomes.{Outcome, does, telling}
-use Rattle.recovery_model.specs.Repairs.{expects, is_extra, unwanted, struck, mismatch_at, mismatches}
+use Rattle.recovery_model.specs.Repairs.{expects, is_unwanted, unwanted_token, single_token_deletion, mismatch_at, mismatches}
 
 -- the kinds of states on which a parser may stand before a choice: at the start of a block or the entry of a loop, on the way
 -- back of a loop, or neither
@@ -42,27 +42,27 @@ stops_at n w v x = expects n w v x || recovery w (follows n v) x
 
 -- the token does not fit, so something must be done about it
 abbrev pub must_act : WithinSets → View → Bool
-must_act w v = not (in_repair v) && not (may_come w v) && not (may_be_nothing w v)
+must_act w v = not (in_error_recovery_mode v) && not (may_come w v) && not (may_be_nothing w v)
 
--- where a choice begins one token is struck if that helps; on the way back of a loop tokens are passed to one that fits
+-- where a choice begins one token is deleted if that helps; on the way back of a loop tokens are passed to one that fits
 abbrev pub acts : Choice → Net → WithinSets → View → Outcome
 acts Begins n w v =
-    if is_extra n w v then telling (given (unwanted n w v) v) (does (struck v) Done) else mismatches (mismatch_at (own_pair v) v) v
+    if is_unwanted n w v then telling (given (unwanted_token n w v) v) (does (single_token_deletion v) Done) else mismatches (mismatch_at (own_pair v) v) v
 acts GoesBack n w v =
-    telling (given (unwanted n w v) v) (does (pass_many Searched (before (stops_at n w v) v.shown) (begun v)) Done)
+    telling (given (unwanted_token n w v) v) (does (pass_many Searched (before (stops_at n w v) v.shown) (begin_error_condition v)) Done)
 acts Neither n w v = does v Done
 
--- In repair nothing is done. A token that may come clears the saved pair; where nothing may come the pair is saved, unless
+-- In error recovery nothing is done. A token that may come clears the saved pair; where nothing may come the pair is saved, unless
 -- one is.
-abbrev pub syncs : Net → WithinSets → View → Outcome
-syncs n w v =
-    if in_repair v then does v Done
-    else if may_come w v then does (record v { noted = record v.noted { saved = None } }) Done
-    else if may_be_nothing w v then does (record v { noted = record v.noted { saved = Some (unwrap_or v.noted.saved (own_pair v)) } }) Done
+abbrev pub sync : Net → WithinSets → View → Outcome
+sync n w v =
+    if in_error_recovery_mode v then does v Done
+    else if may_come w v then does (record v { strategy = record v.strategy { next_tokens = None } }) Done
+    else if may_be_nothing w v then does (record v { strategy = record v.strategy { next_tokens = Some (unwrap_or v.strategy.next_tokens (own_pair v)) } }) Done
     else acts (choice_here n v) n w v
 
 abbrev pub act_leaves : Choice → Net → WithinSets → View → ℕ
-act_leaves Begins n w v = if is_extra n w v then 1 else 0
+act_leaves Begins n w v = if is_unwanted n w v then 1 else 0
 act_leaves GoesBack n w v = before (stops_at n w v) v.shown
 act_leaves Neither n w v = 0
 

@@ -8,21 +8,21 @@ use Rattle.token_stream.specs.Streams.{Shows}
 use Rattle.recovery_model.specs.declared.call.Call.{Call}
 use Rattle.ll1_analyzer.specs.Sets.{Within, Expected, InContext, Recovery}
 use Rattle.recovery_model.specs.Sets.{WithinSets, Agree, within as within_test, expected as expected_test, recovery as recovery_test}
-use Rattle.recovery_model.specs.Views.{View, nothing_noted}
-use Rattle.recovery_model.specs.Passing.{in_repair}
+use Rattle.recovery_model.specs.Views.{View, new_strategy_state}
+use Rattle.recovery_model.specs.Passing.{in_error_recovery_mode}
 use Rattle.recovery_model.specs.Steps.{step}
-use Rattle.recovery_model.specs.Journals.{Happened, Machine, run_of, journal_of, run, journal}
-use Rattle.recovery_model.specs.Histories.{repairing}
+use Rattle.recovery_model.specs.Journals.{Event, Machine, run_of, journal_of, run, journal}
+use Rattle.recovery_model.specs.Histories.{in_error_condition}
 use Rattle.recovery_model.specs.Law.{Law}
-use Rattle.recovery_model.specs.Notes.{Tells}
+use Rattle.recovery_model.specs.Matching.{MatchesHistory}
 
 -- a parser that was just made, over a stream that shows these tokens of its tape: any leaves, free places and reports may be
 -- there already
 pub record New (v : View) : Type 0 where
   pub state : v.state ≡ None
   pub none_open : v.open_rules ≡ []
-  pub noted : v.noted ≡ nothing_noted
-  pub kept : v.kept ≡ None
+  pub strategy : v.strategy ≡ new_strategy_state
+  pub input_mismatch : v.input_mismatch ≡ None
   pub shows : Shows v.tape v.shown
 
 -- The calls keep the tape law, of what was shown and which leaves there were at first and of what they leave, by whatever rule.
@@ -35,13 +35,13 @@ abbrev pub TapeLaw : Type 0
 TapeLaw = (a : Atn) (w : WithinSets) → Agree (net_of a) w → (v : View) → New v → (cs : List Call) → KeepsLaw (net_of a) (step (net_of a) w) v cs
 
 -- What a parser notes is what the history says: the mode, by faults that were reported, and the rest.
-pub record Told (n : Net) (w : WithinSets) (first : List Fields) (h : List Happened) (v : View) : Type 0 where
-  pub tells : Tells n first h v
-  pub mode : in_repair v ≡ repairing n w first h
+pub record Told (n : Net) (w : WithinSets) (first : List Fields) (h : List Event) (v : View) : Type 0 where
+  pub tells : MatchesHistory n first h v
+  pub mode : in_error_recovery_mode v ≡ in_error_condition n w first h
 
 -- The second theorem: place, mode, marks, state and open rules follow from the calls, whatever the sets.
-abbrev pub NotesTell : Type 0
-NotesTell =
+abbrev pub StrategyMatches : Type 0
+StrategyMatches =
     (a : Atn) (w : WithinSets) (v : View) → New v → (cs : List Call) →
     Told (net_of a) w v.shown (reverse (journal (net_of a) w cs v)) (run (net_of a) w cs v)
 

@@ -3,13 +3,13 @@ use Rattle.std.specs.Prelude.{ℕ, Bool, List, ℤ, pos, Option, None, unwrap_or
 use Rattle.std.specs.List.{flat_map}
 use Rattle.atn_graph.specs.Net.{Net}
 use Rattle.ll1_analyzer.specs.Chains.{follow_states}
-use Rattle.records.specs.Leaves.{Said}
-use Rattle.token.specs.Tokens.{Fields, type_number, own}
+use Rattle.records.specs.Leaves.{LeafFields}
+use Rattle.token.specs.Tokens.{Fields, type_number, token_index}
 use Rattle.token_stream.specs.Tapes.{token_at}
 use Rattle.token_stream.specs.Streams.{shown_at}
-use Rattle.recovery_model.specs.Calls.{Kept}
-use Rattle.recovery_model.specs.declared.notes.Mode.{Mode}
-use Rattle.recovery_model.specs.declared.notes.Mode.TheVariants.{Settled}
+use Rattle.recovery_model.specs.Calls.{InputMismatch}
+use Rattle.recovery_model.specs.declared.strategy_state.Mode.{Mode}
+use Rattle.recovery_model.specs.declared.strategy_state.Mode.TheVariants.{Normal}
 use Rattle.recovery_model.specs.declared.open_rule.OpenRule.{OpenRule}
 
 -- where a parser stood: its state, and the invoking states of its open rules
@@ -17,39 +17,39 @@ pub record Pair : Type 0 where
   pub state : ℕ
   pub chain : List ℕ
 
--- what the strategy has noted: whether it is in repair, from where it last searched, the states in which it was called to
+-- what the strategy has noted: whether it is in error recovery, from where it last searched, the states in which it was called to
 -- recover, and the pair that it saved
-pub record Noted : Type 0 where
+pub record StrategyState : Type 0 where
   pub mode : Mode
-  pub last : Option ℕ
-  pub marks : List Bool
-  pub saved : Option Pair
+  pub last_error_index : Option ℕ
+  pub last_error_states : List Bool
+  pub next_tokens : Option Pair
 
 -- The stream's tape, and what it shows; the leaves, and the room for more; the state; the open rules, innermost first; what is
 -- noted; the mismatch that is kept; and whether tokens of the stream's kind have a start and a stop.
 pub record View : Type 0 where
   pub tape : List Fields
   pub shown : List Fields
-  pub leaves : List Said
+  pub leaves : List LeafFields
   pub free : ℕ
   pub state : Option ℕ
   pub open_rules : List OpenRule
-  pub noted : Noted
-  pub kept : Option Kept
+  pub strategy : StrategyState
+  pub input_mismatch : Option InputMismatch
   pub has_span : Bool
 
-abbrev pub no_marks : List Bool
-no_marks = replicate 512 false
+abbrev pub no_error_states : List Bool
+no_error_states = replicate 512 false
 
-abbrev pub nothing_noted : Noted
-nothing_noted = record { mode = Settled; last = None; marks = no_marks; saved = None }
+abbrev pub new_strategy_state : StrategyState
+new_strategy_state = record { mode = Normal; last_error_index = None; last_error_states = no_error_states; next_tokens = None }
 
 -- the current token, and its place; the k-th type ahead
 abbrev pub current : View → Fields
 current v = token_at v.shown 0
 
 abbrev pub place : View → ℕ
-place v = own (current v)
+place v = token_index (current v)
 
 abbrev pub ahead : View → ℕ → ℤ
 ahead v k = type_number (shown_at v.shown (pos k)).typ

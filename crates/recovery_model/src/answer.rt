@@ -1,6 +1,6 @@
 // What calls answer.
 ghost use Rattle.std.specs.Prelude.{◌≡◌};
-ghost use Rattle.recovery_model.specs.Calls.{answer_number, said};
+ghost use Rattle.recovery_model.specs.Calls.{answer_number, answer_of};
 
 use crate::token_fields::TokenFields;
 use errors::denial::Denial;
@@ -29,7 +29,7 @@ pub enum Answer {
 
 impl Answer {
     pub fn number(&self) -> u8
-        ensures { result ≡ answer_number (said self.now) }
+        ensures { result ≡ answer_number (answer_of self.now) }
     {
         match self {
             Answer::Done => 1,

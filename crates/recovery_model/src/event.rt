@@ -1,4 +1,4 @@
-// A line of the journal: a call, what it answered, and the own indexes of the first token shown before it and after it.
+// A line of the journal: a call, what it answered, and the token indexes of the first token shown before it and after it.
 use crate::answer::Answer;
 use crate::call::Call;
 

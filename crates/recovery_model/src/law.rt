@@ -1,6 +1,6 @@
 // Theorems about runs of calls, the sets that they look at, and the leaves that they add.
 ghost use Rattle.std.specs.Prelude.{List};
-ghost use Rattle.recovery_model.specs.TapeLaw.{TapeLaw, NotesTell, SetsAreWalks};
+ghost use Rattle.recovery_model.specs.TapeLaw.{TapeLaw, StrategyMatches, SetsAreWalks};
 ghost use Rattle.recovery_model.specs.Sets.{WithinSets, Agree};
 ghost use Rattle.recovery_model.specs.Existing.{SetsExist, SetsOnce};
 ghost use Rattle.recovery_model.specs.Views.{View};
@@ -9,7 +9,7 @@ ghost use Rattle.recovery_model.specs.Questions.{OwnSets};
 ghost use Rattle.recovery_model.specs.Denials.{DeniedWithFirst};
 ghost use Rattle.recovery_model.specs.Steps.{DeniedLeavesAll};
 ghost use Rattle.recovery_model.specs.declared.call.Call.{Call};
-ghost use Rattle.recovery_model.specs.LeafLimits.{ShownFit, MadeUpFit};
+ghost use Rattle.recovery_model.specs.LeafLimits.{ShownFits, MissingSymbolFits};
 ghost use Rattle.atn.specs.declared.atn.Atn.{Atn};
 ghost use Rattle.atn.specs.Checked.{net_of};
 ghost use Rattle.atn_graph.specs.Net.{Net};
@@ -21,7 +21,7 @@ ghost use Rattle.token_stream.specs.Streams.{Shows};
 pub fn tape_law()
     ensures sets { (a : Atn) (w : WithinSets) → Agree (net_of a) w → SetsAreWalks a w }
     ensures law { TapeLaw }
-    ensures notes { NotesTell }
+    ensures notes { StrategyMatches }
 {}
 
 // Every checked net has within-rule sets, as tests that agree with its walks; and no two that differ agree.
@@ -32,8 +32,8 @@ pub fn sets_exist()
 
 // A leaf can be made of every token that a stream shows, and of one that is made up in the place of a token of the tape.
 pub fn leaves_fit()
-    ensures shown_leaves { (tape shown : List Fields) → Shows tape shown → ShownFit shown }
-    ensures made_up_leaves { (tape shown : List Fields) → Shows tape shown → MadeUpFit tape }
+    ensures shown_leaves { (tape shown : List Fields) → Shows tape shown → ShownFits shown }
+    ensures missing_symbols { (tape shown : List Fields) → Shows tape shown → MissingSymbolFits tape }
 {}
 
 // Each view that the calls of a new parser lead to is coherent, so no question that a parser asks is denied; and the sets

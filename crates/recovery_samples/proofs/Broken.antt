@@ -2,7 +2,7 @@
 use Rattle.std.proofs.Common.{◌≡◌, ℕ, zero, suc, ◌<◌, ◌⊎◌, Bool, true, false, ◌||◌, List, [], ◌∷◌, ◌++◌, length, map, filter, reverse, take, drop, slice_index_or, sym, refl, ap, ◌∙◌, subst, inl, inr, arith, ℤ}
 use Rattle.std.proofs.lemmas.Bool.{cond-true, cond-false, or_left, or_right, or_from, false_from_ne_true}
 use Rattle.std.proofs.lemmas.List.{length-append, length-map}
-use Rattle.token.specs.Tokens.{Fields, type_number, is_eof, own}
+use Rattle.token.specs.Tokens.{Fields, type_number, is_eof, token_index}
 use Rattle.token_stream.specs.Tapes.{token_at}
 use Rattle.token_stream.specs.Streams.{Shows}
 use Rattle.samples.specs.Pass.{pass}
@@ -11,14 +11,14 @@ use Rattle.recovery_model.specs.declared.call.Call.TheVariants.{Recover}
 use Rattle.recovery_model.specs.Sets.{recovery}
 use Rattle.recovery_model.specs.Passing.{before}
 use Rattle.recovery_model.specs.Steps.{step}
-use Rattle.recovery_model.specs.Journals.{Happened, Machine, happens_of, run_of, journal_of}
+use Rattle.recovery_model.specs.Journals.{Event, Machine, event_by, run_of, journal_of}
 use Rattle.recovery_model.specs.Histories.{open_follows, shown_from, is_recover, searched_from}
 use Rattle.recovery_model.specs.Law.{EndsOn, MayFollow, token_mark, leaf_mark, is_of_a_dropped}
 use Rattle.recovery_model.specs.TapeLaw.{New, KeepsLaw}
 use Rattle.recovery_model.proofs.Searching.{decides_recovery}
 use Rattle.recovery_model.proofs.Fitting.{Fit}
 use Rattle.recovery_model.proofs.Keeping.{law_but_last}
-use Rattle.recovery_model.proofs.Counting.{few_recovers}
+use Rattle.recovery_model.proofs.Counting.{bounded_recovers}
 use Rattle.recovery_samples.specs.declared.faulty.Run.{Run}
 use Rattle.recovery_samples.specs.declared.faulty.Run.TheVariants.{Recovers, Rounds}
 use Rattle.recovery_samples.specs.Faulty.{stands_still, searches_once, never_skips, passes_one, adds_no_leaf, is_blind, types_of, begins, whole, Breaks, EachBreaks, Faulty}
@@ -39,13 +39,13 @@ first_stop types (t ∷ ts) rest some stop pass =
 
 -- where a search ends, by the tests
 module _ (shown : List Fields) where
-  abbrev end_of : List Happened → ℕ → ℕ
-  end_of h q = let ts = shown_from q shown in own (token_at ts (before (recovery tests (open_follows pass h)) ts))
+  abbrev end_of : List Event → ℕ → ℕ
+  end_of h q = let ts = shown_from q shown in token_index (token_at ts (before (recovery tests (open_follows pass h)) ts))
 
-  ends_at : (h : List Happened) (q p : ℕ) → EndsOn pass h shown q p → end_of h q ≡ p
+  ends_at : (h : List Event) (q p : ℕ) → EndsOn pass h shown q p → end_of h q ≡ p
   ends_at h q p e =
-      ap (λ ts. own (token_at ts (before types ts))) e.parts
-      ∙ ap own (first_stop types e.passed e.rest e.some (stop e.stops) (λ k l. let g = e.passes k l in or_from _ _ g.0 (false_from_ne_true _ (λ f. g.1 ((decides (token_at e.passed k)).0 f)))))
+      ap (λ ts. token_index (token_at ts (before types ts))) e.parts
+      ∙ ap token_index (first_stop types e.passed e.rest e.some (stop e.stops) (λ k l. let g = e.passes k l in or_from _ _ g.0 (false_from_ne_true _ (λ f. g.1 ((decides (token_at e.passed k)).0 f)))))
       ∙ e.place
     where
       types : ℤ → Bool
@@ -60,14 +60,14 @@ module _ (shown : List Fields) where
 
 -- the k-th event of a run of recovers, what was before it, and where it had to end
 module _ (m : Machine) (k : ℕ) where
-  abbrev js : List Happened
+  abbrev js : List Event
   js = journal_of m (whole Recovers) (begins Recovers)
 
-  abbrev history : List Happened
+  abbrev history : List Event
   history = reverse (take k js)
 
-  abbrev event : Happened
-  event = slice_index_or js k (happens_of m Recover (begins Recovers))
+  abbrev event : Event
+  event = slice_index_or js k (event_by m Recover (begins Recovers))
 
   broken_at : js ≡ reverse history ++ event ∷ drop (suc k) js → is_recover event ≡ true → (end_of (begins Recovers).shown history (searched_from pass (begins Recovers).shown history event) ≡ event.after → ⊥) → Breaks m Recovers
   broken_at parts rec wrong law = wrong (ends_at (begins Recovers).shown history _ event.after (law.ends_on history event (record { later = drop (suc k) js; parts = parts }) rec))
@@ -110,7 +110,7 @@ sound : (r : Run) → KeepsLaw pass (step pass tests) (begins r) (whole r)
 sound r =
     let v = begins r in
     let shows : Shows v.tape v.shown = (new r).shows in
-    law_but_last v.tape v.shown shows pass fit tests tests_agree v refl refl refl refl (whole r) (few_recovers v.tape v.shown shows pass fit tests (whole r) v refl refl refl refl)
+    law_but_last v.tape v.shown shows pass fit tests tests_agree v refl refl refl refl (whole r) (bounded_recovers v.tape v.shown shows pass fit tests (whole r) v refl refl refl refl)
 
 pub faulty : Faulty
 faulty = record {

@@ -52,7 +52,7 @@ module _ (n : Net) where
           subst (λ b. Decides b (CanEnd n s)) (sym (get_or_past es s false (omega (arith, l, ends_long))))
           (never (over_none n None s [] (outside s l).1 (outside s l).0))
 
-  -- walks from a stop state with no edge go on at the top of the pile
+  -- walks from a stop state with no edge go on at the top of the stack
   with_back : (x : ℤ) {s k : ℕ} {p q : List ℕ} → Walk n s p k q → (f : ℕ) (r : List ℕ) → p ≡ f ∷ r → (state_at n s).first ≡ (state_at n s).end → TakesAt n k x → Ends n (Some x) f r
   with_back x Walk.here f r is none t = absurd (omega (arith, t.of, none))
   with_back x (Walk.along e w) f r is none t = absurd (omega (arith, e.of, none))
@@ -60,7 +60,7 @@ module _ (n : Net) where
   with_back x {k = k} {q = q} (Walk.back {f = g} {p = u} stop w) f r is none t =
       let top : g ≡ f = cc in
       let rest : u ≡ r = cc in
-      record { state = k; pile = q; walk = subst (λ a. Walk n a r k q) top (subst (λ b. Walk n g b k q) rest w); takes = t }
+      record { state = k; stack = q; walk = subst (λ a. Walk n a r k q) top (subst (λ b. Walk n g b k q) rest w); takes = t }
 
   stop_back : {s k : ℕ} {p q : List ℕ} → Walk n s p k q → q ≡ [] → (f : ℕ) (r : List ℕ) → p ≡ f ∷ r → (state_at n s).first ≡ (state_at n s).end → Stop n k → Ends n None f r
   stop_back Walk.here end f r is none stop = cc
@@ -72,5 +72,5 @@ module _ (n : Net) where
       record { state = k; walk = subst (λ c. Walk n f r k c) end (subst (λ a. Walk n a r k q) top (subst (λ b. Walk n g b k q) rest w)); stop = stop }
 
   pub over_back : (o : Option ℤ) (s f : ℕ) (r : List ℕ) → Stop n s → (state_at n s).first ≡ (state_at n s).end → (Ends n o s (f ∷ r) ↔ Ends n o f r)
-  over_back (Some x) s f r stop none = (λ e. with_back x e.walk f r refl none e.takes, λ e. record { state = e.state; pile = e.pile; walk = Walk.back stop e.walk; takes = e.takes })
+  over_back (Some x) s f r stop none = (λ e. with_back x e.walk f r refl none e.takes, λ e. record { state = e.state; stack = e.stack; walk = Walk.back stop e.walk; takes = e.takes })
   over_back None s f r stop none = (λ e. stop_back e.walk refl f r refl none e.stop, λ e. record { state = e.state; walk = Walk.back stop e.walk; stop = e.stop })

@@ -1,6 +1,6 @@
 -- A parser over tokens in their places is a new one.
 use Rattle.std.proofs.Common.{◌≡◌, ℕ, zero, suc, ◌+◌, ◌<◌, true, false, List, [], ◌∷◌, length, Some, unwrap_or, refl, ap, ◌∙◌, arith}
-use Rattle.token.specs.Tokens.{is_eof, own}
+use Rattle.token.specs.Tokens.{is_eof, token_index}
 use Rattle.token_stream.specs.Tapes.{token_at, EndsInEof}
 use Rattle.token_stream.specs.Streams.{Shows}
 use Rattle.recovery_model.specs.TapeLaw.{New}
@@ -50,8 +50,8 @@ shows_all ts few = record {
   named = λ k l. record { index = (in_place 0 ts k l).0 ∙ ap Some (omega (arith, owned k l)); inside = omega (arith, l, owned k l); same = ap (token_at (tokens 0 ts)) (owned k l) };
 }
   where
-    owned : (k : ℕ) → k < length (tokens 0 ts) → own (token_at (tokens 0 ts) k) ≡ k
+    owned : (k : ℕ) → k < length (tokens 0 ts) → token_index (token_at (tokens 0 ts) k) ≡ k
     owned k l = ap (λ i. unwrap_or i 0) (in_place 0 ts k l).0 ∙ omega arith
 
 pub new_made : (ts : List ℕ) → length ts < 65535 → New (made ts)
-new_made ts few = record { state = refl; none_open = refl; noted = refl; kept = refl; shows = shows_all ts few }
+new_made ts few = record { state = refl; none_open = refl; strategy = refl; input_mismatch = refl; shows = shows_all ts few }

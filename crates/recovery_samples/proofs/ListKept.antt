@@ -5,7 +5,7 @@ use Rattle.std.proofs.lemmas.Bool.{cases_lt}
 use Rattle.atn_graph.specs.declared.transition.Move.TheVariants.{Call}
 use Rattle.atn_graph.specs.Kinds.{move_of}
 use Rattle.atn_graph.specs.Net.{Of, no_state, size, state_at, edge_at}
-use Rattle.atn_graph.specs.Rules.{Sound, RuleFits, PlaceFits, StateFits, edge_fits}
+use Rattle.atn_graph.specs.Rules.{IsSoundNet, RuleFits, PlaceFits, StateFits, edge_fits}
 use Rattle.atn.specs.Walks.{HasEdge, Walk, LeftRecursive, HasLeftRecursion}
 use Rattle.samples.proofs.Each.{Each, each}
 use Rattle.recovery_samples.specs.ListNet.{list_net}
@@ -25,7 +25,7 @@ places_fit = search rules
 edges_fit : Each EdgesFit 0 9
 edges_fit = search rules
 
-pub list_sound : Sound list_net
+pub list_sound : IsSoundNet list_net
 list_sound = record { rules = λ r l. each (RuleFits list_net) 0 2 r rules_fit (omega arith) (omega arith); states = states; used_up = refl }
   where
     states : (s : ℕ) → s < size list_net → StateFits list_net s
@@ -71,7 +71,7 @@ Inside j = 4 ≤ (edge_at list_net j).target
 inside_listed : Each Inside 3 5
 inside_listed = search rules
 
--- A walk with nothing on the pile stays in rule 1.
+-- A walk with nothing on the stack stays in rule 1.
 stays : {s k : ℕ} {p q : List ℕ} → Walk list_net s p k q → p ≡ [] → 4 ≤ s → 4 ≤ k
 stays Walk.here is l = l
 stays {s} (Walk.along e w) is l =

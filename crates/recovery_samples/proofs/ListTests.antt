@@ -14,7 +14,7 @@ use Rattle.recovery_samples.specs.Seen.{only}
 use Rattle.recovery_samples.specs.ListNet.{list_net, one_or_two, list_types, list_ends, list_sets}
 use Rattle.recovery_samples.proofs.Deciding.{by, always, never, agree_by, over_back}
 
--- with which types walks end: from states of rule 1 with nothing on the pile, and with the state after the list on it
+-- with which types walks end: from states of rule 1 with nothing on the stack, and with the state after the list on it
 module _ (x : ℤ) where
   from_2 : (p : List ℕ) → (EndsWith list_net 2 p x ↔ (x ≡ pos 2))
   from_2 p = iff_trans (over_one list_net (Some x) 2 2 p refl refl refl) (one (pos 2) x)

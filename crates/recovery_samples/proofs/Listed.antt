@@ -18,7 +18,7 @@ told_is i = no_types ∷ (λ x. int_eq x (pos 1) || or-false (int_eq x (pos 2)) 
 
 by_sets : AsSaid list_sets
 unfolding types_in
-by_sets = record { lines = refl; kept = refl; types = told_is }
+by_sets = record { lines = refl; input_mismatch = refl; types = told_is }
 
 pub list_run : ListRun
 list_run = record {

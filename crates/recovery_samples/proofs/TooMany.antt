@@ -7,7 +7,7 @@ use Rattle.samples.specs.Pass.{pass}
 use Rattle.recovery_model.specs.declared.call.Call.{Call}
 use Rattle.recovery_model.specs.Sets.{recovery}
 use Rattle.recovery_model.specs.Views.{View, place}
-use Rattle.recovery_model.specs.Journals.{Happened, Machine, journal_of}
+use Rattle.recovery_model.specs.Journals.{Event, Machine, journal_of}
 use Rattle.recovery_model.specs.Histories.{open_follows, shown_from, is_recover, searched_from}
 use Rattle.recovery_model.specs.Law.{Linked, EndsOn, recovers_at}
 use Rattle.recovery_model.proofs.Searching.{decides_recovery}
@@ -20,18 +20,18 @@ thirteen : recovers_at 0 (journal_of (answers_only tests) (whole Rounds) (begins
 thirteen = refl
 
 pub only_answers : Breaks (answers_only tests) Rounds
-only_answers law = omega (arith, law.few_recovers (token_at (begins Rounds).shown 0) 0 (omega arith) refl refl, thirteen)
+only_answers law = omega (arith, law.bounded_recovers (token_at (begins Rounds).shown 0) 0 (omega arith) refl refl, thirteen)
 
 linked_of : (m : Machine) (cs : List Call) (v : View) → Linked (place v) (journal_of m cs v)
 linked_of m [] v = tt
 linked_of m (c ∷ cs) v = (refl, linked_of m cs (m c v).view)
 
 -- a test of each event of a journal, with what was before it
-abbrev along : (List Happened → Happened → Bool) → List Happened → List Happened → Bool
+abbrev along : (List Event → Event → Bool) → List Event → List Event → Bool
 along test h [] = true
 along test h (e ∷ js) = test h e && along test (e ∷ h) js
 
-along_at : (test : List Happened → Happened → Bool) (h js xs later : List Happened) (e : Happened) → js ≡ xs ++ e ∷ later → along test h js ≡ true → test (reverse xs ++ h) e ≡ true
+along_at : (test : List Event → Event → Bool) (h js xs later : List Event) (e : Event) → js ≡ xs ++ e ∷ later → along test h js ≡ true → test (reverse xs ++ h) e ≡ true
 along_at test h [] xs later e parts t = absurd (omega (arith, ap length parts, length-append xs (e ∷ later)))
 along_at test h (d ∷ js) [] later e parts t = subst (λ c. test h c ≡ true) (ap (λ l. slice_index_or l 0 e) parts) (and_parts _ _ t).0
 along_at test h (d ∷ js) (x ∷ xs) later e parts t =
@@ -40,13 +40,13 @@ along_at test h (d ∷ js) (x ∷ xs) later e parts t =
     subst (λ g. test g e ≡ true) (ap (λ c. reverse xs ++ c ∷ h) same ∙ sym order) (along_at test (d ∷ h) js xs later e (ap (drop 1) parts) (and_parts _ _ t).1)
 
 -- Each recover of the rounds searches from the 1, and ends there, as a 1 may follow.
-abbrev at_one : List Happened → Happened → Bool
+abbrev at_one : List Event → Event → Bool
 at_one h e = not (is_recover e) || ((searched_from pass (begins Rounds).shown h e == 0) && ((e.after == 0) && recovery tests (open_follows pass h) (pos 1)))
 
 all_at_one : along at_one [] (journal_of (answers_only tests) (whole Rounds) (begins Rounds)) ≡ true
 all_at_one = refl
 
-ends_on_one : (h : List Happened) (e : Happened) → at_one h e ≡ true → is_recover e ≡ true → EndsOn pass h (begins Rounds).shown (searched_from pass (begins Rounds).shown h e) e.after
+ends_on_one : (h : List Event) (e : Event) → at_one h e ≡ true → is_recover e ≡ true → EndsOn pass h (begins Rounds).shown (searched_from pass (begins Rounds).shown h e) e.after
 ends_on_one h e t rec = record {
   passed = [];
   rest = (begins Rounds).shown;

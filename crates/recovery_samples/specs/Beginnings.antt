@@ -3,7 +3,7 @@ use Rattle.std.specs.Prelude.{ℕ, ◌+◌, List, [], ◌∷◌, map, Option, So
 use Rattle.token.specs.declared.token_type.TokenType.{TokenType}
 use Rattle.token.specs.declared.token_type.TokenType.TheVariants.{Eof, Of}
 use Rattle.token.specs.Tokens.{Fields}
-use Rattle.recovery_model.specs.Views.{View, place, nothing_noted}
+use Rattle.recovery_model.specs.Views.{View, place, new_strategy_state}
 
 -- the token of that type at place k of a tape, in line 1
 abbrev pub token : TokenType → ℕ → Fields
@@ -23,8 +23,8 @@ made types = record {
   free = 9;
   state = None;
   open_rules = [];
-  noted = nothing_noted;
-  kept = None;
+  strategy = new_strategy_state;
+  input_mismatch = None;
   has_span = false;
 }
 

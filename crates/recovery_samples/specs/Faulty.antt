@@ -8,14 +8,14 @@ use Rattle.recovery_model.specs.declared.call.Call.TheVariants.{State, Enter, Ma
 use Rattle.recovery_model.specs.Calls.{Done, Token, Denied, fits}
 use Rattle.recovery_model.specs.Sets.{WithinSets, Agree, no_types}
 use Rattle.recovery_model.specs.Views.{View, current, place, ahead}
-use Rattle.recovery_model.specs.Passing.{Searched, pass_many, ended}
+use Rattle.recovery_model.specs.Passing.{Searched, pass_many, end_error_condition}
 use Rattle.recovery_model.specs.Outcomes.{Outcome, does}
-use Rattle.recovery_model.specs.Recovering.{searching, unstuck, search_length, recovers}
+use Rattle.recovery_model.specs.Recovering.{searching, failsafe, search_length, recover}
 use Rattle.recovery_model.specs.Denials.{denial}
 use Rattle.recovery_model.specs.Steps.{accepted, refused, step}
-use Rattle.recovery_model.specs.Journals.{Happened, Machine, run_of, journal_of}
+use Rattle.recovery_model.specs.Journals.{Event, Machine, run_of, journal_of}
 use Rattle.recovery_model.specs.Histories.{shown_from, is_recover, searched_from}
-use Rattle.recovery_model.specs.Law.{end_place, Linked, Stands, EndsOn, recovers_at}
+use Rattle.recovery_model.specs.Law.{end_place, Linked, Occurs, EndsOn, recovers_at}
 use Rattle.recovery_model.specs.TapeLaw.{New, KeepsLaw}
 use Rattle.recovery_samples.specs.declared.faulty.Run.{Run}
 use Rattle.recovery_samples.specs.declared.faulty.Run.TheVariants.{Recovers, Rounds}
@@ -38,17 +38,17 @@ recovering does_so w c v = accepted pass w c v
 abbrev pub stands_still : WithinSets → Machine
 stands_still = accepting (recovering (λ w v. does (searching v) Done))
 
--- Recover passes nothing where a search is noted since repair was last ended.
+-- Recover passes nothing where a search is noted since the error condition was last ended.
 abbrev pub searches_once : WithinSets → Machine
-searches_once = accepting (recovering (λ w v. if is_some v.noted.last then does (searching v) Done else recovers pass w v))
+searches_once = accepting (recovering (λ w v. if is_some v.strategy.last_error_index then does (searching v) Done else recover pass w v))
 
--- The guard never skips a token.
+-- The failsafe never skips a token.
 abbrev pub never_skips : WithinSets → Machine
 never_skips = accepting (recovering (λ w v. let u = searching v in does (pass_many Searched (search_length pass w u) u) Done))
 
 -- A search passes at most one of the tokens before the first that fits.
 abbrev pub passes_one : WithinSets → Machine
-passes_one = accepting (recovering (λ w v. let u = searching (unstuck v) in does (pass_many Searched (min (search_length pass w u) 1) u) Done))
+passes_one = accepting (recovering (λ w v. let u = searching (failsafe v) in does (pass_many Searched (min (search_length pass w u) 1) u) Done))
 
 -- No leaf is ever added.
 abbrev pub adds_no_leaf : WithinSets → Machine
@@ -63,9 +63,9 @@ abbrev pub matching : (View → Outcome) → WithinSets → Call → View → Ou
 matching does_so w (Match t) v = if fits (Match t) (ahead v 1) then does_so v else accepted pass w (Match t) v
 matching does_so w c v = accepted pass w c v
 
--- A match of the token first shown answers it and ends repair, and does not pass it.
+-- A match of the token first shown answers it and ends the error condition, and does not pass it.
 abbrev pub answers_only : WithinSets → Machine
-answers_only = accepting (matching (λ v. does (ended v) (Token (current v))))
+answers_only = accepting (matching (λ v. does (end_error_condition v) (Token (current v))))
 
 -- the types of the tape of a run before EOF
 abbrev pub types_of : Run → List ℕ
@@ -97,7 +97,7 @@ Breaks m r = KeepsLaw pass m (begins r) (whole r) → ⊥
 pub record OnlyTooMany (m : Machine) (r : Run) : Type 0 where
   pub linked : Linked (place (begins r)) (journal_of m (whole r) (begins r))
   pub ends_on :
-      (h : List Happened) (e : Happened) → Stands (journal_of m (whole r) (begins r)) h e → is_recover e ≡ true →
+      (h : List Event) (e : Event) → Occurs (journal_of m (whole r) (begins r)) h e → is_recover e ≡ true →
       EndsOn pass h (begins r).shown (searched_from pass (begins r).shown h e) e.after
   pub none_dropped : (run_of m (whole r) (begins r)).shown ≡ (begins r).shown
   pub shown_is_left : (run_of m (whole r) (begins r)).shown ≡ shown_from (end_place (place (begins r)) (journal_of m (whole r) (begins r))) (begins r).shown

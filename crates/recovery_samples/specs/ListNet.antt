@@ -4,7 +4,7 @@ use Rattle.std.specs.Prelude.{◌≡◌, Bool, false, true, List, [], ◌∷◌,
 use Rattle.std.specs.Ordering.{int_eq}
 use Rattle.atn_graph.specs.declared.atn_state.StateKind.TheVariants.{Basic, RuleStart, RuleStop, StarLoopBack, StarLoopEntry}
 use Rattle.atn_graph.specs.Net.{Net}
-use Rattle.atn_graph.specs.Rules.{Sound, beyond_limits}
+use Rattle.atn_graph.specs.Rules.{IsSoundNet, beyond_limits}
 use Rattle.atn.specs.Walks.{HasLeftRecursion}
 use Rattle.samples.specs.Pass.{state, plain_to, taking, calling}
 use Rattle.recovery_model.specs.Sets.{WithinSets, Agree, no_types}
@@ -41,6 +41,6 @@ list_sets = record { types = λ s. get_or list_types s no_types; end = λ s. get
 -- The net keeps every rule and limit of nets, and its sets are these.
 pub record ListNet : Type 0 where
   pub limits : beyond_limits list_net ≡ false
-  pub sound : Sound list_net
+  pub sound : IsSoundNet list_net
   pub not_left_recursive : HasLeftRecursion list_net → ⊥
   pub agree : Agree list_net list_sets

@@ -7,13 +7,13 @@ use Rattle.token.specs.Tokens.{Fields}
 use Rattle.records.specs.declared.leaf.LeafKind.{LeafKind}
 use Rattle.records.specs.declared.report.Report.{Report}
 use Rattle.records.specs.declared.report.ReportKind.{ReportKind}
-use Rattle.records.specs.Leaves.{Said as Leaf}
+use Rattle.records.specs.Leaves.{LeafFields as Leaf}
 use Rattle.recovery_model.specs.declared.call.Call.{Call}
-use Rattle.recovery_model.specs.Calls.{Said}
+use Rattle.recovery_model.specs.Calls.{Answer}
 use Rattle.recovery_model.specs.Views.{View, place}
 use Rattle.recovery_model.specs.Outcomes.{Outcome}
 use Rattle.recovery_model.specs.Journals.{Machine, told_of_run}
-use Rattle.recovery_model.specs.declared.notes.Mode.{Mode}
+use Rattle.recovery_model.specs.declared.strategy_state.Mode.{Mode}
 
 -- the leaf of a token, by how many rules are open and the innermost of them
 abbrev pub leaf : ℕ → ℕ → LeafKind → Fields → Leaf
@@ -35,14 +35,14 @@ report kind t expected smallest = record { kind = kind; index = t.index; line = 
 
 -- what is seen of a call: its answer, the leaves and the place after it, the reports that it gave, and the mode after it
 pub record Seen : Type 0 where
-  pub answer : Said
+  pub answer : Answer
   pub leaves : List Leaf
   pub place : ℕ
   pub told : List Report
   pub mode : Mode
 
 abbrev pub seen : Outcome → Seen
-seen o = record { answer = o.answer; leaves = o.view.leaves; place = place o.view; told = map (λ t. t.report) o.told; mode = o.view.noted.mode }
+seen o = record { answer = o.answer; leaves = o.view.leaves; place = place o.view; told = map (λ t. t.report) o.told; mode = o.view.strategy.mode }
 
 -- what is seen of some calls, one after the other
 abbrev pub trace : {S : Type 0} → (Outcome → S) → Machine → List Call → View → List S

@@ -11,7 +11,7 @@ use Rattle.atn.specs.Walks.{Stop, HasEdge, Walk}
 use Rattle.atn.specs.Labels.{takes, TakesAt}
 use Rattle.ll1_analyzer.specs.Sets.{EndsWith, EndsOnStop, Types, CanEnd}
 
--- A walk from s on the pile p ends with a type, or on a stop state.
+-- A walk from s on the stack p ends with a type, or on a stop state.
 abbrev pub Ends : Net → Option ℤ → ℕ → List ℕ → Type 0
 Ends n (Some x) s p = EndsWith n s p x
 Ends n None s p = EndsOnStop n s p
@@ -61,8 +61,8 @@ module _ (n : Net) where
   onward_with x {p = p} Walk.here goes t =
       let k = (edge_at n t.edge).kind in
       record { edge = t.edge; of = t.of; ahead = subst (Over n (Some x) p k (edge_at n t.edge).target) (sym (token_of_takes n k x t.takes)) t.takes }
-  onward_with x {s} {k} {p} {q} (Walk.along e w) goes t = over (Some x) s p e (record { state = k; pile = q; walk = w; takes = t })
-  onward_with x {s} {k} {p} {q} (Walk.call e w) goes t = over (Some x) s p e (record { state = k; pile = q; walk = w; takes = t })
+  onward_with x {s} {k} {p} {q} (Walk.along e w) goes t = over (Some x) s p e (record { state = k; stack = q; walk = w; takes = t })
+  onward_with x {s} {k} {p} {q} (Walk.call e w) goes t = over (Some x) s p e (record { state = k; stack = q; walk = w; takes = t })
   onward_with x (Walk.back e w) goes t = absurd (both_ways _ goes e)
 
   onward_on_stop : {s k : ℕ} {p q : List ℕ} → Walk n s p k q → q ≡ [] → is_stop (state_at n s).kind ≡ false → Stop n k → Onward n None s p
@@ -77,11 +77,11 @@ module _ (n : Net) where
 
   -- and an edge that leads to such an end begins a walk that ends so
   longer : (o : Option ℤ) {s t : ℕ} {p q : List ℕ} → ((k : ℕ) (r : List ℕ) → Walk n t q k r → Walk n s p k r) → Ends n o t q → Ends n o s p
-  longer (Some x) first e = record { state = e.state; pile = e.pile; walk = first e.state e.pile e.walk; takes = e.takes }
+  longer (Some x) first e = record { state = e.state; stack = e.stack; walk = first e.state e.stack e.walk; takes = e.takes }
   longer None first e = record { state = e.state; walk = first e.state [] e.walk; stop = e.stop }
 
   ends_here : (o : Option ℤ) (s : ℕ) (p : List ℕ) (j : ℕ) → Of n s j → Taken n o (edge_at n j).kind → Ends n o s p
-  ends_here (Some x) s p j of e = record { state = s; pile = p; walk = Walk.here; takes = record { edge = j; of = of; takes = e } }
+  ends_here (Some x) s p j of e = record { state = s; stack = p; walk = Walk.here; takes = record { edge = j; of = of; takes = e } }
   ends_here None s p j of e = absurd e
 
   pub ends_of_onward : (o : Option ℤ) (s : ℕ) (p : List ℕ) → Onward n o s p → Ends n o s p
@@ -122,7 +122,7 @@ module _ (n : Net) where
         from (inl a) = ends_of_onward o s p (record { edge = j; of = (omega arith, omega arith); ahead = a })
         from (inr a) = ends_of_onward o s p (record { edge = j + 1; of = (omega arith, omega arith); ahead = a })
 
-  -- a walk on an empty pile ends at once on a stop state
+  -- a walk on an empty stack ends at once on a stop state
   pub on_stop : (s : ℕ) → Stop n s → CanEnd n s
   on_stop s stop = record { state = s; walk = Walk.here; stop = stop }
 

@@ -2,8 +2,8 @@
 use Rattle.std.proofs.Common.{◌≡◌, ℕ, ◌-◌, ◌<◌, true, [], pos, refl, arith, rules, slice_index_or}
 use Rattle.atn_graph.specs.Tables.{Rows}
 use Rattle.atn_graph.specs.Net.{size, rule_at, state_at, edge_at, end_before}
-use Rattle.atn_graph.specs.Written.{Writes, WritesState, WritesEdge, rule_row, no_rule_row, no_state_row, no_edge_row}
-use Rattle.atn_graph.specs.Rules.{Sound, RuleFits, PlaceFits, StateFits, edge_fits}
+use Rattle.atn_graph.specs.Written.{WritesNet, WritesState, WritesEdge, rule_row, no_rule_row, no_state_row, no_edge_row}
+use Rattle.atn_graph.specs.Rules.{IsSoundNet, RuleFits, PlaceFits, StateFits, edge_fits}
 use Rattle.samples.specs.declared.rows.TheConstants.{RULES, STATES, EDGES}
 use Rattle.samples.specs.Pass.{pass}
 use Rattle.samples.proofs.Each.{Each, each}
@@ -43,7 +43,7 @@ states_written = search rules
 edges_written : Each EdgeWritten 0 10
 edges_written = search rules
 
-pub pass_written : Writes pass_rows pass
+pub pass_written : WritesNet pass_rows pass
 pass_written = record {
   max = refl;
   rule_count = refl;
@@ -65,7 +65,7 @@ places_fit = search rules
 edges_fit : Each EdgesFit 0 11
 edges_fit = search rules
 
-pub pass_sound : Sound pass
+pub pass_sound : IsSoundNet pass
 pass_sound = record { rules = λ r l. each (RuleFits pass) 0 2 r rules_fit (omega arith) (omega arith); states = states; used_up = refl }
   where
     states : (s : ℕ) → s < size pass → StateFits pass s

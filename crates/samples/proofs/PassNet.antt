@@ -9,7 +9,7 @@ use Rattle.samples.proofs.Onward.{over_one, over_two, on_stop, no_type}
 pub iff_trans : {A B C : Type 0} → (A ↔ B) → (B ↔ C) → (A ↔ C)
 iff_trans e f = (λ a. f.0 (e.0 a), λ c. e.1 (f.1 c))
 
--- with which types walks end from each state, whatever the pile
+-- with which types walks end from each state, whatever the stack
 module _ (x : ℤ) where
   pub from_4 : (p : List ℕ) → (EndsWith pass 4 p x ↔ (x ≡ eof))
   from_4 p = iff_trans (over_one pass (Some x) 4 5 p refl refl refl) (one eof x)

@@ -65,7 +65,7 @@ from_6 r = at (goes_on 7 r.walk refl plain) r.calls
     none_7 : HasEdge pass 7 6 (Call r.follow) → ⊥
     none_7 e = let is = tokens e.number e.of in let h = e.moves in cc (is, h)
 
-    at : (r.state ≡ 6) ⊎ Walk pass 7 [] r.state r.pile → HasEdge pass r.state 6 (Call r.follow) → ⊥
+    at : (r.state ≡ 6) ⊎ Walk pass 7 [] r.state r.stack → HasEdge pass r.state 6 (Call r.follow) → ⊥
     at (inl is) e = none_6 (subst (λ k. HasEdge pass k 6 (Call r.follow)) is e)
     at (inr w) e = none_7 (subst (λ k. HasEdge pass k 6 (Call r.follow)) (stays w refl tokens) e)
 

@@ -1,5 +1,5 @@
 pub mod Faults
 pub mod LeafRows
 pub mod LinesTaken
-pub mod Said
+pub mod LeafFields
 pub mod Words

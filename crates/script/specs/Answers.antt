@@ -4,7 +4,7 @@ use Rattle.std.specs.Option.{unwrap_or}
 use Rattle.errors.specs.Denials.{denial_number, DeniesFirst}
 use Rattle.errors.specs.declared.denial.Denial.{Denial}
 use Rattle.atn_graph.specs.Tables.{Rows}
-use Rattle.atn_graph.specs.Written.{Writes}
+use Rattle.atn_graph.specs.Written.{WritesTape}
 use Rattle.atn.specs.declared.atn.Atn.{Atn}
 use Rattle.atn.specs.Checked.{net_of, Fault}
 use Rattle.script.specs.Contents.{Content, row_counts}
@@ -34,7 +34,7 @@ pub record Checked (k : Content) (net : Result Atn Denial) : Type 0 where
   pub m : ℤ
   pub given : k.max ≡ Some m
   pub verdict : DeniesFirst (Fault (said_tables k m)) net
-  pub written : IfOk net (λ n. Writes (said_tables k m) (net_of n))
+  pub written : IfOk net (λ n. WritesTape (said_tables k m) (net_of n))
 
 -- A script with a net line is answered, with a summary if it asks for one.
 abbrev pub Answered : Content → Option Answer → Type 0

@@ -12,7 +12,7 @@ abbrev pub TypeFits : TokenType → Type 0
 TypeFits Eof = Unit {0}
 TypeFits (Of n) = n ≤ 255
 
--- The token has the row's numbers, and keeps of its span what its kind keeps. A row says nothing of the own index.
+-- The token has the row's numbers, and keeps of its span what its kind keeps. A row says nothing of the token index.
 pub record WritesToken {S : Type 0} (kept : S → Option Span) (row : TokenRow S) (t : Fields) : Type 0 where
   pub type_fits : TypeFits t.typ
   pub typ : type_number t.typ ≡ row.token_type
@@ -23,5 +23,5 @@ pub record WritesToken {S : Type 0} (kept : S → Option Span) (row : TokenRow S
   pub span : t.span ≡ kept row.span
 
 -- The rows write the tokens, one each, in their order.
-abbrev pub Writes : {S : Type 0} → (S → Option Span) → List (TokenRow S) → List Fields → Type 0
-Writes kept = AllZip (WritesToken kept)
+abbrev pub WritesTape : {S : Type 0} → (S → Option Span) → List (TokenRow S) → List Fields → Type 0
+WritesTape kept = AllZip (WritesToken kept)

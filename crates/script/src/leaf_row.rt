@@ -1,5 +1,5 @@
 ghost use Rattle.std.specs.Prelude.{◌≡◌, MatchOption, pos};
-ghost use Rattle.records.specs.Leaves.{leaf_number, LeafFits, Said};
+ghost use Rattle.records.specs.Leaves.{leaf_number, LeafFits, LeafFields};
 ghost use Rattle.records.specs.LeafLines.{numbers};
 ghost use Rattle.records.specs.declared.leaf.LeafKind.{LeafKind};
 ghost use Rattle.token.specs.Tokens.{index_number};
@@ -16,9 +16,9 @@ fn leaf_kind(n: i32) -> Option<LeafKind>
         .find(|k| i32::from(k.number()) == n)
 }
 
-// The leaf with these numbers: kind, depth, rule, type, own index, line and column.
+// The leaf with these numbers: kind, depth, rule, type, token index, line and column.
 pub fn leaf_of(ns: &[i32]) -> Option<Leaf>
-    ensures { MatchOption result ((l : Said) → LeafFits l → numbers l ≡ ns.now → ⊥) (λ l. LeafFits l × (numbers l ≡ ns.now)) }
+    ensures { MatchOption result ((l : LeafFields) → LeafFits l → numbers l ≡ ns.now → ⊥) (λ l. LeafFits l × (numbers l ≡ ns.now)) }
 {
     let &[kind, depth, rule, t, index, line, column] = ns else {
         return None;

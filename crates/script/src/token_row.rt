@@ -31,7 +31,7 @@ pub(crate) fn token_type(n: i32) -> Option<TokenType>
 }
 
 impl<S: KeptSpan + Copy> TokenRow<S> {
-    // The token that the row writes, with that own index.
+    // The token that the row writes, with that token index.
     pub fn token(&self, index: u16) -> Option<CommonToken<S>>
         ensures written { MatchOption result ((t : Fields) → WritesToken S.kept self.now t → ⊥) (λ t. WritesToken S.kept self.now (common_fields S.kept t)) }
         ensures index { IfSome result (λ t. t.index ≡ Some index) }

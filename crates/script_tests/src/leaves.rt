@@ -10,7 +10,7 @@ const ADDED: [(&str, &str); 5] = [
         "leaf 1 2 1 1 0 1 0",
         "leaf 1 2 1 1 0 1 0: done\n  leaf 1 2 1 1 0 1 0\n       1       2       1       1       0       1       0\n",
     ),
-    // the limits; the end of the input is type -1, a made-up token has no own index
+    // the limits; the end of the input is type -1, a made-up token has no token index
     (
         "leaf 2 64 63 255 65534 1000000 1000000\nleaf 1 1 0 -1 -1 0 0",
         "leaf 2 64 63 255 65534 1000000 1000000: done\n  leaf 2 64 63 255 65534 1000000 1000000\n       2      64      63     255   65534 1000000 1000000\nleaf 1 1 0 -1 -1 0 0: done\n  leaf 1 1 0 -1 -1 0 0\n       1       1       0      -1      -1       0       0\n",

@@ -28,7 +28,7 @@ const SHOWN: [(&str, &str); 8] = [
     ),
     // the end of the input alone is a tape
     ("lane -1 0 0 0\nwithin 8", "tape ok\nwithin 8: 2\n"),
-    // rows in any order among those of the net, each with its place as its own index
+    // rows in any order among those of the net, each with its place as its token index
     (
         "lane 3 0 1 1\nlookahead cache\nlane -1 0 1 2\nwithin 8\ntokens\nwithin 10",
         "tape ok\nwithin 8: 2\ntokens: 2\n  0: lane 3 0 1 1\n  1: lane -1 0 1 2\nwithin 10: -2\n",

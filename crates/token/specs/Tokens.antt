@@ -4,7 +4,7 @@ use Rattle.token.specs.declared.token_type.TokenType.{TokenType}
 use Rattle.token.specs.declared.token_type.TokenType.TheVariants.{Eof, Of}
 use Rattle.token.specs.declared.token_type.Span.{Span}
 
--- All that a token of any kind says of itself. A token that was made up has no own index, and a kind may have no start and
+-- All that a token of any kind says of itself. A token that was made up has no token index, and a kind may have no start and
 -- stop.
 pub record Fields : Type 0 where
   pub typ : TokenType
@@ -13,7 +13,7 @@ pub record Fields : Type 0 where
   pub position : ℕ × ℕ
   pub span : Option Span
 
--- the number of a type, and of an own index
+-- the number of a type, and of an token index
 abbrev pub type_number : TokenType → ℤ
 type_number Eof = negsuc 0
 type_number (Of n) = pos n
@@ -26,9 +26,9 @@ abbrev pub is_eof : TokenType → Bool
 is_eof Eof = true
 is_eof (Of n) = false
 
--- the own index of a token of a tape
-abbrev pub own : Fields → ℕ
-own f = unwrap_or f.index 0
+-- the token index of a token of a tape
+abbrev pub token_index : Fields → ℕ
+token_index f = unwrap_or f.index 0
 
 -- the start and stop that a token has, of those asked for, if its kind has them
 abbrev pub kept_span : Bool → Span → Option Span

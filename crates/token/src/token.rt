@@ -17,7 +17,7 @@ pub trait Token {
     fn channel(&self) -> u8
         ensures { result ≡ (fields self.now).channel };
 
-    // The own index: the token's place in its tape. None if it was made up.
+    // The token index: the token's place in its tape. None if it was made up.
     fn token_index(&self) -> Option<u16>
         ensures { result ≡ (fields self.now).index };
 

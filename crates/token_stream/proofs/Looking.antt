@@ -12,7 +12,7 @@ use Rattle.std.proofs.Math.Seq.{get_or-append_seam}
 use Rattle.std.proofs.lemmas.List.Elements.{filter-append}
 use Rattle.std.proofs.lemmas.Bool.{cases_eq, cases_lt, le-ltb, both_ways, cond-true, cond-false}
 use Rattle.token.specs.Tokens.{Fields, is_eof}
-use Rattle.token_stream.specs.Tapes.{no_token, token_at, EndsInEof, Sound}
+use Rattle.token_stream.specs.Tapes.{no_token, token_at, EndsInEof, IsTape}
 use Rattle.token_stream.specs.Streams.{capped, shown_at, passed, visible, filtered}
 use Rattle.token_stream.specs.Looked.{Looked, IsNext, IsFound}
 
@@ -27,7 +27,7 @@ pub ahead_inside : (ts : List Fields) (ahead : ℕ) → 0 < ahead → ahead ≤ 
 ahead_inside ts ahead some l = ap (token_at ts) (capped_inside ts (ahead - 1) (omega (arith, some, l)))
 
 -- the first token that a table shows is the one at its place
-pub first_index : (tape : List Fields) (p : ℕ) → p < length tape → Sound tape → (shown_at (drop p tape) (pos 1)).index ≡ Some p
+pub first_index : (tape : List Fields) (p : ℕ) → p < length tape → IsTape tape → (shown_at (drop p tape) (pos 1)).index ≡ Some p
 first_index tape p l w =
     ap (λ t. t.index) (ahead_inside (drop p tape) 1 (omega arith) (omega (arith, l, length-drop p tape)) ∙ get_or-drop p tape 0 no_token)
     ∙ subst (λ k. (token_at tape k).index ≡ Some p) (omega arith) (w.placed p l).index

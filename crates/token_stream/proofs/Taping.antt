@@ -9,7 +9,7 @@ use Rattle.errors.specs.declared.denial.Denial.{Denial}
 use Rattle.errors.specs.declared.denial.Denial.TheVariants.{FaultyTape}
 use Rattle.errors.specs.Denials.{IsBefore, First}
 use Rattle.token.specs.Tokens.{Fields, is_eof}
-use Rattle.token_stream.specs.Tapes.{no_token, token_at, Placed, EndsInEof, Sound, TapeFault}
+use Rattle.token_stream.specs.Tapes.{no_token, token_at, Placed, EndsInEof, IsTape, TapeFault}
 
 -- what `all` answers: each element passes, or one fails
 abbrev pub AllAnswer : {X : Type 0} → (Yes No : X → Type 0) → List X → Bool → Type 0
@@ -70,7 +70,7 @@ decides_placed {T} fields (x ∷ ys) r all = decides_all P (λ p. P p → ⊥) (
     read k l = get_or-map fields xs k x no_token l
 
 -- a faulty tape is denied
-pub faulty_first : (tape : List Fields) → (Sound tape → ⊥) → First (TapeFault tape) FaultyTape
+pub faulty_first : (tape : List Fields) → (IsTape tape → ⊥) → First (TapeFault tape) FaultyTape
 faulty_first tape faulty = record { fits = faulty; none_before = before }
   where
     before : (d : Denial) → IsBefore d FaultyTape → TapeFault tape d → ⊥

@@ -4,13 +4,13 @@ use Rattle.std.proofs.lemmas.Bool.{or_left, cond-true}
 use Rattle.std.proofs.lemmas.List.{take_all, length_push, get_or_push, get_or_default}
 use Rattle.std.proofs.lemmas.List.Elements.{All-filter, All-from_get_or, filter_more}
 use Rattle.std.proofs.lemmas.List.Kept.{AllPairs-filter}
-use Rattle.token.specs.Tokens.{Fields, is_eof, own}
+use Rattle.token.specs.Tokens.{Fields, is_eof, token_index}
 use Rattle.token_stream.specs.Tapes.{no_token, token_at}
 use Rattle.token_stream.specs.Streams.{Named, Shows, visible, filtered}
 
--- any token and a later one: the first is not EOF, and their own indexes rise
+-- any token and a later one: the first is not EOF, and their token indexes rise
 abbrev Later : Fields → Fields → Type 0
-Later t u = (is_eof t.typ ≡ false) × (own t < own u)
+Later t u = (is_eof t.typ ≡ false) × (token_index t < token_index u)
 
 module _ (tape ts : List Fields) (s : Shows tape ts) where
   later : AllPairs Later (filtered ts)

@@ -7,8 +7,8 @@ use Rattle.std.proofs.Common.{◌≡◌, ℕ, ◌+◌, ◌-◌, ◌<◌, List, l
 use Rattle.std.proofs.Props.{props}
 use Rattle.std.specs.Prelude.{map, unwrap_or}
 use Rattle.std.proofs.lemmas.List.{get_or-drop, length-drop, length-map}
-use Rattle.token.specs.Tokens.{Fields, is_eof, own}
-use Rattle.token_stream.specs.Tapes.{no_token, token_at, Placed, EndsInEof, Sound}
+use Rattle.token.specs.Tokens.{Fields, is_eof, token_index}
+use Rattle.token_stream.specs.Tapes.{no_token, token_at, Placed, EndsInEof, IsTape}
 use Rattle.token_stream.specs.Streams.{Shows}
 
 option_prop : (a b : Option ℕ) → IsProp (a ≡ b)
@@ -24,11 +24,11 @@ ends_prop ts a b i = record {
   before = λ k l. Bool-set _ _ (a.before k l) (b.before k l) i;
 }
 
-pub sound_prop : (tape : List Fields) → IsProp (Sound tape)
+pub sound_prop : (tape : List Fields) → IsProp (IsTape tape)
 sound_prop tape a b i = record { few = le_prop a.few b.few i; ends = ends_prop tape a.ends b.ends i; placed = λ k l. placed_prop (token_at tape k) k (a.placed k l) (b.placed k l) i }
 
 -- from place p of a tape on
-module _ (tape : List Fields) (p : ℕ) (l : p < length tape) (w : Sound tape) where
+module _ (tape : List Fields) (p : ℕ) (l : p < length tape) (w : IsTape tape) where
   at : (k : ℕ) → token_at (drop p tape) k ≡ token_at tape (p + k)
   at k = get_or-drop p tape k no_token
 
@@ -38,7 +38,7 @@ module _ (tape : List Fields) (p : ℕ) (l : p < length tape) (w : Sound tape) w
   index_at : (k : ℕ) → k < length (drop p tape) → (token_at (drop p tape) k).index ≡ Some (p + k)
   index_at k h = ap (λ t. t.index) (at k) ∙ (w.placed (p + k) (omega (arith, h, left, l))).index
 
-  own_at : (k : ℕ) → k < length (drop p tape) → own (token_at (drop p tape) k) ≡ p + k
+  own_at : (k : ℕ) → k < length (drop p tape) → token_index (token_at (drop p tape) k) ≡ p + k
   own_at k h = ap (λ o. unwrap_or o 0) (index_at k h)
 
   ends : EndsInEof (drop p tape)
@@ -61,9 +61,9 @@ module _ (tape : List Fields) (p : ℕ) (l : p < length tape) (w : Sound tape) w
   }
 
 -- a sound tape is one fact, however it is known
-pub sound_of : (tape : List Fields) → ∥ Sound tape ∥₁ → Sound tape
+pub sound_of : (tape : List Fields) → ∥ IsTape tape ∥₁ → IsTape tape
 sound_of tape s = ∥∥₁_elim s (sound_prop tape) (λ w. w)
 
 -- so a table does
-pub table_shows : {T : Type 0} (fields : T → Fields) (xs : List T) (p : ℕ) → p < length xs → Sound (map fields xs) → Shows (map fields xs) (drop p (map fields xs))
+pub table_shows : {T : Type 0} (fields : T → Fields) (xs : List T) (p : ℕ) → p < length xs → IsTape (map fields xs) → Shows (map fields xs) (drop p (map fields xs))
 table_shows fields xs p l s = shows_from (map fields xs) p (omega (arith, l, length-map xs fields)) s

@@ -1,24 +1,24 @@
 -- What a stream shows, and what its questions answer.
 use Rattle.std.specs.Prelude.{◌≡◌, ℕ, ◌-◌, ◌<◌, ◌≤◌, Bool, ◌||◌, List, [], ◌∷◌, length, ℤ, pos, negsuc, filter, Some, ◌==◌, if◌then◌else◌, nat_lt}
-use Rattle.token.specs.Tokens.{Fields, is_eof, own}
-use Rattle.token_stream.specs.Tapes.{token_at, EndsInEof, Sound}
+use Rattle.token.specs.Tokens.{Fields, is_eof, token_index}
+use Rattle.token_stream.specs.Tapes.{token_at, EndsInEof, IsTape}
 
--- the token's own index names it on the tape
+-- the token's token index names it on the tape
 pub record Named (tape : List Fields) (t : Fields) : Type 0 where
-  pub index : t.index ≡ Some (own t)
-  pub inside : own t < length tape
-  pub same : token_at tape (own t) ≡ t
+  pub index : t.index ≡ Some (token_index t)
+  pub inside : token_index t < length tape
+  pub same : token_at tape (token_index t) ≡ t
 
--- The law of streams: the tape is one; what is shown ends in EOF, own indexes rise strictly, and each names that token of the
+-- The law of streams: the tape is one; what is shown ends in EOF, token indexes rise strictly, and each names that token of the
 -- tape.
 pub record Shows (tape shown : List Fields) : Type 0 where
-  pub sound : Sound tape
+  pub sound : IsTape tape
   pub ends : EndsInEof shown
-  pub rises : (j k : ℕ) → j < k → k < length shown → own (token_at shown j) < own (token_at shown k)
+  pub rises : (j k : ℕ) → j < k → k < length shown → token_index (token_at shown j) < token_index (token_at shown k)
   pub named : (k : ℕ) → k < length shown → Named tape (token_at shown k)
 
 -- What every question leaves as it was: the tape, and what is shown.
-pub record Keeps {S : Type 0} (tape shown : S → List Fields) (old new : S) : Type 0 where
+pub record KeepsShown {S : Type 0} (tape shown : S → List Fields) (old new : S) : Type 0 where
   pub same_tape : tape new ≡ tape old
   pub same_shown : shown new ≡ shown old
 

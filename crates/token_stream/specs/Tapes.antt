@@ -12,7 +12,7 @@ no_token = record { typ = Eof; channel = 0; index = None; position = (0, 0); spa
 abbrev pub token_at : List Fields → ℕ → Fields
 token_at ts k = slice_index_or ts k no_token
 
--- the token at place k: its own index is its place, and its line and column are at most 1,000,000
+-- the token at place k: its token index is its place, and its line and column are at most 1,000,000
 pub record Placed (t : Fields) (k : ℕ) : Type 0 where
   pub index : t.index ≡ Some k
   pub line : t.position.0 ≤ 1000000
@@ -25,11 +25,11 @@ pub record EndsInEof (ts : List Fields) : Type 0 where
   pub before : (k : ℕ) → k + 1 < length ts → is_eof (token_at ts k).typ ≡ false
 
 -- A tape has 1 to 65,535 tokens, ends in its one EOF, and each token is in its place.
-pub record Sound (tape : List Fields) : Type 0 where
+pub record IsTape (tape : List Fields) : Type 0 where
   pub few : length tape ≤ 65535
   pub ends : EndsInEof tape
   pub placed : (k : ℕ) → k < length tape → Placed (token_at tape k) k
 
 abbrev pub TapeFault : List Fields → Denial → Type 0
-TapeFault tape FaultyTape = Sound tape → ⊥
+TapeFault tape FaultyTape = IsTape tape → ⊥
 TapeFault tape _ = ⊥

@@ -7,7 +7,7 @@ use std::marker::PhantomData;
 
 // How far a filter has looked: token number `ahead` below, counted from 1, is number `count` of those that it shows.
 #[derive(Clone, Copy)]
-pub struct Sight {
+pub struct Cursor {
     pub count: usize,
     pub ahead: u16,
 }
@@ -17,8 +17,8 @@ pub struct Sight {
 pub struct Filter<'a, S: IntStream> {
     pub(crate) below: S,
     // none until it looks on from where it stands
-    pub(crate) sight: Option<Sight>,
+    pub(crate) cursor: Option<Cursor>,
     // the tokens live as long as their tape
     pub(crate) tape: PhantomData<&'a ()>,
-    ghost looked: { ForSome sight (λ s. ∥ Looked (S.shown below) s.count s.ahead ∥₁) },
+    ghost looked: { ForSome cursor (λ s. ∥ Looked (S.shown below) s.count s.ahead ∥₁) },
 }

@@ -2,11 +2,11 @@
 ghost use Rattle.std.specs.Prelude.{◌≡◌, ◌<◌, ◌≤◌, List, length, drop, pos, IsSomeAnd};
 ghost use Rattle.std.specs.Option.{ForSome};
 ghost use Rattle.token.specs.Tokens.{Fields, is_eof};
-ghost use Rattle.token_stream.specs.Streams.{Keeps, filtered, shown_at, visible};
+ghost use Rattle.token_stream.specs.Streams.{KeepsShown, filtered, shown_at, visible};
 ghost use Rattle.token_stream.specs.Filtering.{filter_shows};
 ghost use Rattle.token_stream.specs.Looked.{Looked, IsNext, IsFound};
 
-use crate::filter::{Filter, Sight};
+use crate::filter::{Filter, Cursor};
 use crate::stream::{IntStream, TokenStream};
 use std::marker::PhantomData;
 use token::token::Token;
@@ -20,7 +20,7 @@ fn is_visible<T: Token>(t: &T) -> bool
 
 // Whether token number j, counted from 1, is EOF.
 fn is_eof_at<'a, S: TokenStream<'a>>(below: &mut S, j: u16) -> bool
-    ensures keeps { Keeps S.tape S.shown below.old below.new }
+    ensures keeps { KeepsShown S.tape S.shown below.old below.new }
     ensures eof { result ≡ is_eof (shown_at (S.shown below.old) (pos j)).typ }
 {
     below.la(i32::from(j)).is_eof()
@@ -29,7 +29,7 @@ fn is_eof_at<'a, S: TokenStream<'a>>(below: &mut S, j: u16) -> bool
 // The number, counted from 1, of the next visible token after the first `from` of the stream.
 fn next_visible<'a, S: TokenStream<'a>>(below: &mut S, from: u16) -> u16
     requires { from < length (S.shown below.old) }
-    ensures keeps { Keeps S.tape S.shown below.old below.new }
+    ensures keeps { KeepsShown S.tape S.shown below.old below.new }
     ensures next { IsNext (S.shown below.old) from result }
 {
     // Kept as a loop: looking may change the stream, which no closure of a proved chain may.
@@ -41,29 +41,29 @@ fn next_visible<'a, S: TokenStream<'a>>(below: &mut S, from: u16) -> u16
 }
 
 // Looks on until the k-th visible token, or EOF if there are fewer, is the last that was looked at.
-fn look_on<'a, S: TokenStream<'a>>(below: &mut S, seen: Option<Sight>, k: usize) -> Sight
+fn look_on<'a, S: TokenStream<'a>>(below: &mut S, seen: Option<Cursor>, k: usize) -> Cursor
     requires looked { ForSome seen (λ s. Looked (S.shown below.old) s.count s.ahead) }
     requires more { ForSome seen (λ s. s.count ≤ k) }
     requires some { 0 < k }
-    ensures keeps { Keeps S.tape S.shown below.old below.new }
+    ensures keeps { KeepsShown S.tape S.shown below.old below.new }
     ensures looked { Looked (S.shown below.old) result.count result.ahead }
     ensures not_past { result.count ≤ k }
     ensures found { IsFound (S.shown below.old) k result.ahead }
 {
-    let mut sight = match seen {
-        Some(sight) => sight,
-        None => Sight {
+    let mut cursor = match seen {
+        Some(cursor) => cursor,
+        None => Cursor {
             count: 1,
             ahead: next_visible(below, 0),
         },
     };
-    while sight.count < k && !is_eof_at(below, sight.ahead) {
-        sight = Sight {
-            count: sight.count + 1,
-            ahead: next_visible(below, sight.ahead),
+    while cursor.count < k && !is_eof_at(below, cursor.ahead) {
+        cursor = Cursor {
+            count: cursor.count + 1,
+            ahead: next_visible(below, cursor.ahead),
         };
     }
-    sight
+    cursor
 }
 
 // Drops the first n tokens of the stream, among which is no EOF.
@@ -91,22 +91,22 @@ impl<'a, S: TokenStream<'a>> Filter<'a, S> {
     {
         Filter {
             below,
-            sight: None,
+            cursor: None,
             tape: PhantomData,
         }
     }
 
     // Which token below, counted from 1, is the k-th that is shown; EOF if there are fewer.
     fn seek(&mut self, k: i32) -> i32
-        ensures keeps { Keeps S.tape S.shown self.old.below self.new.below }
+        ensures keeps { KeepsShown S.tape S.shown self.old.below self.new.below }
         ensures found { shown_at (S.shown self.old.below) result ≡ shown_at (filtered (S.shown self.old.below)) k }
-        ensures keeps_sight { IsSomeAnd self.new.sight (λ s. result ≡ pos s.ahead) }
+        ensures keeps_cursor { IsSomeAnd self.new.cursor (λ s. result ≡ pos s.ahead) }
     {
         let k = at_least_one(k);
-        let seen = self.sight.filter(|s| s.count <= k);
-        let sight = look_on(&mut self.below, seen, k);
-        self.sight = Some(sight);
-        i32::from(sight.ahead)
+        let seen = self.cursor.filter(|s| s.count <= k);
+        let cursor = look_on(&mut self.below, seen, k);
+        self.cursor = Some(cursor);
+        i32::from(cursor.ahead)
     }
 }
 
@@ -132,7 +132,7 @@ impl<'a, S: TokenStream<'a>> IntStream for Filter<'a, S> {
         let first = next_visible(&mut self.below, 0);
         if !is_eof_at(&mut self.below, first) {
             pass(&mut self.below, first);
-            self.sight = None;
+            self.cursor = None;
         }
     }
 }

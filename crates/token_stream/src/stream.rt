@@ -1,7 +1,7 @@
 // Streams of tokens.
 ghost use Rattle.std.specs.Prelude.{◌≡◌, true, Some, List, pos};
 ghost use Rattle.token.specs.Tokens.{Fields, is_eof};
-ghost use Rattle.token_stream.specs.Streams.{Shows, Keeps, Outside, shown_at, tape_at, passed};
+ghost use Rattle.token_stream.specs.Streams.{Shows, KeepsShown, Outside, shown_at, tape_at, passed};
 
 use token::token::{Token, TokenFactory};
 use token::token_type::TokenType;
@@ -17,13 +17,13 @@ pub trait IntStream {
 
     // The type of the k-th token ahead, counted from 1.
     fn la(&mut self, k: i32) -> TokenType
-        ensures keeps { Keeps tape shown self.old self.new }
+        ensures keeps { KeepsShown tape shown self.old self.new }
         ensures type_ahead { result ≡ (shown_at (shown self.old) k).typ };
 
-    // The own index of the first token shown.
+    // The token index of the first token shown.
     fn index(&mut self) -> u16
-        ensures keeps { Keeps tape shown self.old self.new }
-        ensures own_index { (shown_at (shown self.old) (pos 1)).index ≡ Some result };
+        ensures keeps { KeepsShown tape shown self.old self.new }
+        ensures token_index { (shown_at (shown self.old) (pos 1)).index ≡ Some result };
 
     fn consume(&mut self)
         ensures keeps_tape { tape self.new ≡ tape self.old }
@@ -41,7 +41,7 @@ pub trait TokenStream<'a>: IntStream {
 
     // The k-th token ahead, counted from 1.
     fn lt(&mut self, k: i32) -> &'a Self::Tok
-        ensures keeps { Keeps Self.tape Self.shown self.old self.new }
+        ensures keeps { KeepsShown Self.tape Self.shown self.old self.new }
         ensures token_ahead { Self.Tok.fields result.now ≡ shown_at (Self.shown self.old) k };
 
     // The token at a place of the tape; outside it EOF.

@@ -1,7 +1,7 @@
 // The check of a tape.
 ghost use Rattle.std.specs.Prelude.{◌≡◌, map, Decides, EachIndex, IfOk};
 ghost use Rattle.errors.specs.Denials.{DeniesFirst};
-ghost use Rattle.token_stream.specs.Tapes.{token_at, Placed, EndsInEof, Sound, TapeFault};
+ghost use Rattle.token_stream.specs.Tapes.{token_at, Placed, EndsInEof, IsTape, TapeFault};
 
 use crate::table::TokenTable;
 use errors::denial::Denial;
@@ -9,7 +9,7 @@ use token::token::Token;
 
 pub const MAX_TOKENS: usize = 65_535;
 
-// Whether the token has place k as its own index, and a line and a column within their limits.
+// Whether the token has place k as its token index, and a line and a column within their limits.
 fn is_placed<T: Token>(t: &T, k: usize) -> bool
     ensures { Decides result (Placed (T.fields t.now) k) }
 {
@@ -36,7 +36,7 @@ fn all_placed<T: Token>(tokens: &[T]) -> bool
 
 // Whether the tokens are a tape.
 fn is_tape<T: Token>(tokens: &[T]) -> bool
-    ensures { Decides result (Sound (map T.fields tokens.now)) }
+    ensures { Decides result (IsTape (map T.fields tokens.now)) }
 {
     tokens.len() <= MAX_TOKENS && ends_in_eof(tokens) && all_placed(tokens)
 }

@@ -22,7 +22,7 @@ fn what_is_ahead(rt: HostRuntime) -> Result<(), Fail> {
     Ok(())
 }
 
-// A tape of events, whose own index each answers, until EOF stays.
+// A tape of events, whose token index each answers, until EOF stays.
 #[test]
 fn consuming_stops_at_eof(rt: HostRuntime) -> Result<(), Fail> {
     let make = |token_type, i| LaneFactory.create(token_type, 0, Some(i), (0, 0), NOWHERE);

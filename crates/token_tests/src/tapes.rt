@@ -42,7 +42,7 @@ fn where_eof_stands(rt: HostRuntime) {
 }
 
 #[test]
-fn own_indexes(rt: HostRuntime) {
+fn token_indexes(rt: HostRuntime) {
     assert_eq!(rt; verdict(&[eof(1)]), FAULTY);
     assert_eq!(rt; verdict(&[word(1, 0), word(1, 0), eof(2)]), FAULTY);
     assert_eq!(rt; verdict(&[word(1, 1), word(1, 2), eof(3)]), FAULTY);

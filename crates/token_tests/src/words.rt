@@ -41,7 +41,7 @@ pub(crate) fn eof_on_channel_1(index: u16) -> WordToken {
     at(TokenType::Eof, 1, index)
 }
 
-// The types ahead and the own indexes of the tokens, of which the last stays.
+// The types ahead and the token indexes of the tokens, of which the last stays.
 pub(crate) fn shows<'a, S: TokenStream<'a>>(rt: &impl Abort, s: &mut S, want: &[(i32, u16)]) {
     for (k, (number, index)) in (1..).zip(want.iter().chain(want.last())) {
         assert_eq!(rt; i32::from(s.la(k)), *number, "at {k}");

@@ -1,6 +1,6 @@
 use Rattle.std.proofs.Common.{◌≡◌, length, map, take}
 use Rattle.token.specs.Kinds.{common_fields}
-use Rattle.script.specs.TokenRows.{Writes}
+use Rattle.script.specs.TokenRows.{WritesTape}
 use Rattle.answers.specs.Tapes.{Numbered}
 use Rattle.answers.proofs.tape.tokens_of.Given as goal
 
@@ -8,6 +8,6 @@ use Rattle.answers.proofs.tape.tokens_of.Given as goal
 abbrev pub invariant-loop-row : goal.invariant-loop-row
 invariant-loop-row g l = record {
   count : length l.tokens.items ≡ l.row-index;
-  written : Writes g.S.KeptSpan.kept (take l.row-index l.rows) (map (common_fields g.S.KeptSpan.kept) l.tokens.items);
+  written : WritesTape g.S.KeptSpan.kept (take l.row-index l.rows) (map (common_fields g.S.KeptSpan.kept) l.tokens.items);
   numbered : Numbered (map (common_fields g.S.KeptSpan.kept) l.tokens.items);
 }

@@ -1,7 +1,7 @@
 use Rattle.std.proofs.Common.{◌≡◌, ◌++◌, [], List, ℕ, ◌≤◌, length, rules, arith, ap, ap₂, ◌∙◌}
 use Rattle.std.proofs.lemmas.List.{append-nil, drop_all}
 use Rattle.records.specs.LeafLines.{leaf_line}
-use Rattle.records.specs.Lists.{listed, behind}
+use Rattle.records.specs.Lists.{listed, spare}
 use Rattle.records.proofs.Memory.{whole_list}
 use Rattle.records.proofs.columns.write_line.Goals as goal
 
@@ -10,8 +10,8 @@ returns-clause-line c =
     let out = c.put_line.new.out in
     let old = c.new-out.result in
     let line : listed out ≡ leaf_line c.args.leaf = c.put_line.ensures.line ∙ ap (λ t. t ++ leaf_line c.args.leaf) c.new-out.ensures.empty in
-    let some : length (behind old) ≤ 57 = omega (arith, ap length c.new-out.ensures.untouched, c.requires) in
-    let none : behind out ≡ [] = c.put_line.ensures.untouched ∙ drop_all 57 (behind old) some in
+    let some : length (spare old) ≤ 57 = omega (arith, ap length c.new-out.ensures.untouched, c.requires) in
+    let none : spare out ≡ [] = c.put_line.ensures.untouched ∙ drop_all 57 (spare old) some in
     let whole : out.slots.now ≡ leaf_line c.args.leaf = whole_list out ∙ ap₂ (λ a b. a ++ b) line none ∙ append-nil (leaf_line c.args.leaf) in
     let ends : (t : List ℕ) → t ≡ out.slots.now → t ≡ leaf_line c.args.leaf = λ t e. e ∙ whole in
     ends _ (search rules)

@@ -9,7 +9,7 @@ use Rattle.ll1_analyzer.proofs.Context.{context_of_joined, joined_of_context}
 use Rattle.recovery_model.proofs.Searching.{decides_recovery}
 use Rattle.recovery_model.proofs.Setting.{decides_joined, decides_within}
 use Rattle.recovery_model.proofs.Keeping.{law_but_last}
-use Rattle.recovery_model.proofs.Counting.{few_recovers}
+use Rattle.recovery_model.proofs.Counting.{bounded_recovers}
 use Rattle.recovery_model.proofs.Telling.{tells_none, tells_run}
 use Rattle.recovery_model.proofs.Repairing.{mode_run, mode_none}
 use Rattle.recovery_model.proofs.law.tape_law.Goals as goal
@@ -30,15 +30,15 @@ returns c = record {
   law = λ a w agree v new cs.
       let n = net_of a in
       let fit = fit_of n (sound_of a.graph) a.graph.limits in
-      law_but_last v.tape v.shown new.shows n fit w agree v new.state new.none_open new.noted refl cs
-      (few_recovers v.tape v.shown new.shows n fit w cs v new.state new.none_open new.noted refl);
+      law_but_last v.tape v.shown new.shows n fit w agree v new.state new.none_open new.strategy refl cs
+      (bounded_recovers v.tape v.shown new.shows n fit w cs v new.state new.none_open new.strategy refl);
   notes = λ a w v new cs.
       let n = net_of a in
       let fit = fit_of n (sound_of a.graph) a.graph.limits in
-      let none = tells_none v.tape v.shown new.shows n fit v new.state new.none_open new.noted refl in
+      let none = tells_none v.tape v.shown new.shows n fit v new.state new.none_open new.strategy refl in
       subst (λ h. Told n w v.shown h (run n w cs v)) (append-nil (reverse (journal n w cs v)))
       (record {
         tells = tells_run v.tape v.shown new.shows n fit w cs [] v none;
-        mode = mode_run v.tape v.shown new.shows n fit w cs [] v none (mode_none v new.noted);
+        mode = mode_run v.tape v.shown new.shows n fit w cs [] v none (mode_none v new.strategy);
       });
 }

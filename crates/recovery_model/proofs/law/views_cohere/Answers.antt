@@ -10,7 +10,7 @@ use Rattle.recovery_model.proofs.law.views_cohere.Goals as goal
 
 pub returns : goal.returns
 returns c = record {
-  cohere = λ a. record { new = new_coherent (net_of a); kept = λ w call v h. after_step a w v h call; asks = never_denied a };
+  cohere = λ a. record { new = new_coherent (net_of a); input_mismatch = λ w call v h. after_step a w v h call; asks = never_denied a };
   own_sets = λ a w v agree.
       let n = net_of a in
       record {

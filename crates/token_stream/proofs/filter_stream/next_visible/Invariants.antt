@@ -1,11 +1,11 @@
 use Rattle.std.proofs.Common.{◌≡◌, ◌-◌, ◌<◌, ◌≤◌, length, take}
-use Rattle.token_stream.specs.Streams.{Keeps, filtered}
+use Rattle.token_stream.specs.Streams.{KeepsShown, filtered}
 use Rattle.token_stream.proofs.filter_stream.next_visible.Given as goal
 
 -- no token after the first `from` and before number j is visible
 abbrev pub invariant-loop-j : goal.invariant-loop-j
 invariant-loop-j g l = record {
-  keeps : Keeps g.S.IntStream.tape g.S.IntStream.shown l.fn.below l.below;
+  keeps : KeepsShown g.S.IntStream.tape g.S.IntStream.shown l.fn.below l.below;
   after : l.from < l.j;
   within : l.j ≤ length (g.S.IntStream.shown l.fn.below);
   between : filtered (take (l.j - 1) (g.S.IntStream.shown l.fn.below)) ≡ filtered (take l.from (g.S.IntStream.shown l.fn.below));

@@ -1,5 +1,5 @@
 use Rattle.script.specs.Contents.{content}
-use Rattle.script.proofs.Said.{checked}
+use Rattle.script.proofs.LeafFields.{checked}
 use Rattle.script.proofs.script.Script.answer.Goals as goal
 
 pub returns : goal.returns

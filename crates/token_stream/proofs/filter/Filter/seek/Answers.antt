@@ -3,8 +3,8 @@ use borrow.Author.Tests.{tests}
 use Rattle.token_stream.proofs.Looking.{looked_of, filter_kept}
 use Rattle.token_stream.proofs.filter.Filter.seek.Goals as goal
 
-pub look_on-sight-requires : goal.look_on-sight-requires
-look_on-sight-requires g c κs =
+pub look_on-cursor-requires : goal.look_on-cursor-requires
+look_on-cursor-requires g c κs =
     let s = c.args.self.now in (
       (refl, tt),
       (

@@ -4,8 +4,8 @@ use Rattle.std.proofs.lemmas.List.{length-map}
 use Rattle.token_stream.proofs.Looking.{first_index}
 use Rattle.token_stream.proofs.table_stream.TokenTableIntStream.index.Goals as goal
 
-pub returns-clause-own_index : goal.returns-clause-own_index
-returns-clause-own_index g c =
+pub returns-clause-token_index : goal.returns-clause-token_index
+returns-clause-token_index g c =
     let s = c.args.self.now in
     let tape = map g.T.Token.fields s.tokens.now in
     let first = first_index tape s.place (omega (arith, s.inside, length-map s.tokens.now g.T.Token.fields)) s.sound in

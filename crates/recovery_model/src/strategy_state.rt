@@ -3,23 +3,23 @@ use crate::answer::Chain;
 
 #[derive(Clone, Copy, PartialEq, Eq, Debug)]
 pub enum Mode {
-    Settled,
-    InRepair,
+    Normal,
+    InErrorRecovery,
 }
 
 // Where the parser stood when a state was reached that may be passed by: its state and its chain.
 #[derive(Clone, Copy)]
-pub struct Saved {
+pub struct NextTokens {
     pub state: u16,
     pub chain: Chain,
 }
 
 #[derive(Clone, Copy)]
-pub struct Notes {
+pub struct StrategyState {
     pub mode: Mode,
     // from where the last recover of this repair searched
-    pub last_search: Option<u16>,
+    pub last_error_index: Option<u16>,
     // the states in which recovers of this repair were called
-    pub marks: [bool; 512],
-    pub saved: Option<Saved>,
+    pub last_error_states: [bool; 512],
+    pub next_tokens: Option<NextTokens>,
 }

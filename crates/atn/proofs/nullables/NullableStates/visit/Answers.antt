@@ -7,7 +7,7 @@ use Rattle.atn.specs.Reach.{Listed, LeadsOver, LeadsAmongOver}
 use Rattle.atn.proofs.Growth.{grown_like, grown_both}
 use Rattle.atn.proofs.Some.{among_more, among_last, item_is, item_target, item_follow}
 use Rattle.atn.proofs.Steps.{step_leads, leads_step}
-use Rattle.atn.proofs.nulls.NullStates.visit.Goals as goal
+use Rattle.atn.proofs.nullables.NullableStates.visit.Goals as goal
 
 pub follow-requires-clause-target : goal.follow-requires-clause-target
 follow-requires-clause-target c = item_target c.args.self.now.graph.now c.args.s _ c.edges-e-items.ensures c.loop-e.e-index c.loop-e-test.true

@@ -1,4 +1,4 @@
--- The null states of a net, by passes until one adds nothing.
+-- The nullable states of a net, by passes until one adds nothing.
 use Rattle.std.proofs.Common.{◌≡◌, ℕ, zero, suc, ◌+◌, ◌<◌, ◌≤◌, Bool, true, false, ◌||◌, Decides, ◌⊎◌, List, [], length, refl, subst, inl, inr, arith}
 use Rattle.std.specs.List.{list_any}
 use Rattle.std.proofs.lemmas.Bool.{cases_Bool, cases_lt, both_ways}
@@ -7,12 +7,12 @@ use Rattle.atn_graph.specs.declared.graph.Graph.{Graph}
 use Rattle.atn_graph.specs.Kinds.{is_stop}
 use Rattle.atn_graph.specs.Net.{Net, net, size, state_at, edges_of}
 use Rattle.atn_graph.proofs.Inside.{few_states}
-use Rattle.atn.specs.Found.{noted}
-use Rattle.atn.specs.Reach.{KnowsNull}
-use Rattle.atn.specs.Passes.{over_listed, Falls, AllNull, Pass}
+use Rattle.atn.specs.Found.{with_state}
+use Rattle.atn.specs.Reach.{KnowsNullable}
+use Rattle.atn.specs.Passes.{over_listed, Falls, AllNullable, Pass}
 use Rattle.atn.proofs.Some.{any_edge}
 use Rattle.atn.proofs.Passing.{pass_skip, pass_note, pass_end}
-use Rattle.recovery_model.proofs.Rooms.{Room, room_none, room_noted, room_few}
+use Rattle.recovery_model.proofs.Rooms.{Room, room_none, room_with, room_few}
 
 -- a test whether a state is a stop state or leads over states of the list
 falls : Graph → List ℕ → ℕ → Bool
@@ -43,9 +43,9 @@ pass_to g a r (suc s) l = by (pass_to g a r s (omega arith))
 
     at : (p : Passed (net g.lists) s a) → (falls g p.after s ≡ true) ⊎ (falls g p.after s ≡ false) → Passed (net g.lists) (suc s) a
     at p (inl e) = record {
-      after = noted s p.after;
-      pass = subst (λ k. Pass (net g.lists) k a (noted s p.after)) next (pass_note (net g.lists) s a p.after (noted s p.after) p.pass ((decides_falls g p.after s).0 e) refl);
-      room = room_noted s p.after (omega (arith, few_states g, l)) p.room;
+      after = with_state s p.after;
+      pass = subst (λ k. Pass (net g.lists) k a (with_state s p.after)) next (pass_note (net g.lists) s a p.after (with_state s p.after) p.pass ((decides_falls g p.after s).0 e) refl);
+      room = room_with s p.after (omega (arith, few_states g, l)) p.room;
     }
     at p (inr e) = record {
       after = p.after;
@@ -56,25 +56,25 @@ pass_to g a r (suc s) l = by (pass_to g a r s (omega arith))
     by : Passed (net g.lists) s a → Passed (net g.lists) (suc s) a
     by p = at p (cases_Bool (falls g p.after s))
 
--- A list of exactly the null states.
-pub record Nulls (n : Net) : Type 0 where
+-- A list of exactly the nullable states.
+pub record NullableFound (n : Net) : Type 0 where
   pub listed : List ℕ
-  pub known : KnowsNull n listed
+  pub known : KnowsNullable n listed
 
-nulls_end : (g : Graph) (a : List ℕ) (p : Passed (net g.lists) (size (net g.lists)) a) → AllNull (net g.lists) a → length p.after ≤ length a → Nulls (net g.lists)
-nulls_end g a p h l = record { listed = p.after; known = pass_end (net g.lists) a p.after p.pass (omega (arith, p.pass.longer, l)) h }
+nullables_end : (g : Graph) (a : List ℕ) (p : Passed (net g.lists) (size (net g.lists)) a) → AllNullable (net g.lists) a → length p.after ≤ length a → NullableFound (net g.lists)
+nullables_end g a p h l = record { listed = p.after; known = pass_end (net g.lists) a p.after p.pass (omega (arith, p.pass.longer, l)) h }
 
 -- each pass but the last adds a state, so places passes are enough
-nulls_from : (g : Graph) (places : ℕ) (a : List ℕ) → Room a → AllNull (net g.lists) a → 512 ≤ length a + places → Nulls (net g.lists)
-nulls_from g zero a r h l =
+nullables_from : (g : Graph) (places : ℕ) (a : List ℕ) → Room a → AllNullable (net g.lists) a → 512 ≤ length a + places → NullableFound (net g.lists)
+nullables_from g zero a r h l =
     let p = pass_to g a r (size (net g.lists)) (omega arith) in
-    nulls_end g a p h (omega (arith, room_few p.after p.room, l))
-nulls_from g (suc places) a r h l =
+    nullables_end g a p h (omega (arith, room_few p.after p.room, l))
+nullables_from g (suc places) a r h l =
     let p = pass_to g a r (size (net g.lists)) (omega arith) in
     elim (cases_lt (length a) (length p.after)) [
-      | inl more ↦ nulls_from g places p.after p.room (p.pass.right h) (omega (arith, more, l))
-      | inr none ↦ nulls_end g a p h none
+      | inl more ↦ nullables_from g places p.after p.room (p.pass.right h) (omega (arith, more, l))
+      | inr none ↦ nullables_end g a p h none
     ]
 
-pub nulls_of : (g : Graph) → Nulls (net g.lists)
-nulls_of g = nulls_from g 512 [] room_none (λ k h. absurd (both_ways false refl h)) (omega arith)
+pub nullables_of : (g : Graph) → NullableFound (net g.lists)
+nullables_of g = nullables_from g 512 [] room_none (λ k h. absurd (both_ways false refl h)) (omega arith)

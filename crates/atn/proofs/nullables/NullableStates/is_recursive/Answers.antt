@@ -5,7 +5,7 @@ use Rattle.atn.specs.Found.{found}
 use Rattle.atn.specs.Walks.{LeftRecursiveFrom}
 use Rattle.atn_graph.specs.Net.{net}
 use Rattle.atn.proofs.Recursing.{decides_recursive}
-use Rattle.atn.proofs.nulls.NullStates.is_recursive.Goals as goal
+use Rattle.atn.proofs.nullables.NullableStates.is_recursive.Goals as goal
 
 pub returns : goal.returns
 returns c =

@@ -3,7 +3,7 @@ use Rattle.std.specs.Prelude.{◌≡◌, ℕ, ◌<◌, false, List, ◌++◌, le
 use Rattle.atn_graph.specs.Net.{Net, size}
 use Rattle.token.specs.Tokens.{Fields}
 use Rattle.recovery_model.specs.Views.{View, place}
-use Rattle.recovery_model.specs.Journals.{Happened}
+use Rattle.recovery_model.specs.Journals.{Event}
 use Rattle.recovery_model.specs.Histories.{Standing, standing, shown_from, recovered_in, latest_search}
 
 -- where a parser stands
@@ -17,12 +17,12 @@ pub record Inside (n : Net) (p : Standing) : Type 0 where
 
 -- The parser stands where its calls brought it, the latest search and the states of recovers are noted as the history tells
 -- them, and the tokens shown are those of the first from the present place on, after some that were dropped.
-pub record Tells (n : Net) (first : List Fields) (h : List Happened) (v : View) : Type 0 where
+pub record MatchesHistory (n : Net) (first : List Fields) (h : List Event) (v : View) : Type 0 where
   pub standing : stands v ≡ standing n h
   pub inside : Inside n (stands v)
-  pub last : v.noted.last ≡ latest_search n first h
-  pub long : length v.noted.marks ≡ 512
-  pub marks : (s : ℕ) → s < 512 → slice_index_or v.noted.marks s false ≡ recovered_in n h s
+  pub last : v.strategy.last_error_index ≡ latest_search n first h
+  pub long : length v.strategy.last_error_states ≡ 512
+  pub marks : (s : ℕ) → s < 512 → slice_index_or v.strategy.last_error_states s false ≡ recovered_in n h s
   pub shown : v.shown ≡ shown_from (place v) first
   pub dropped : List Fields
   pub dropped_then_shown : first ≡ dropped ++ v.shown
