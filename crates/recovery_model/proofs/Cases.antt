@@ -13,9 +13,9 @@ use Rattle.recovery_model.specs.Sets.{WithinSets, no_types}
 use Rattle.recovery_model.specs.Views.{View, current, own_pair}
 use Rattle.recovery_model.specs.Passing.{Searched, told_of, before, pass, pass_many, in_error_recovery_mode, begin_error_condition, given, end_error_condition}
 use Rattle.recovery_model.specs.Outcomes.{Outcome, does, telling}
-use Rattle.recovery_model.specs.Repairs.{is_unwanted, is_missing, missing_symbol, unwanted_token, missing_token, single_token_deletion, single_token_insertion, mismatch_at, mismatches, take_token, recover_inline, matched}
-use Rattle.recovery_model.specs.Syncs.{Choice, Begins, GoesBack, Neither, choice_here, may_come, may_be_nothing, stops_at, acts, sync}
-use Rattle.recovery_model.specs.Recovering.{failsafe_applies, failsafe}
+use Rattle.recovery_model.specs.RecoverInline.{is_unwanted, is_missing, missing_symbol, unwanted_token, missing_token, single_token_deletion, single_token_insertion, mismatch_at, mismatches, take_token, recover_inline, matched}
+use Rattle.recovery_model.specs.Sync.{Choice, Begins, GoesBack, Neither, choice_here, may_come, may_be_nothing, stops_at, acts, sync}
+use Rattle.recovery_model.specs.Recover.{failsafe_applies, failsafe}
 use Rattle.recovery_model.specs.Denials.{denial, first_fault}
 use Rattle.recovery_model.specs.Steps.{left, mismatched, reporting, reports, accepted, step}
 

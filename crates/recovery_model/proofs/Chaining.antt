@@ -19,7 +19,7 @@ use Rattle.ll1_analyzer.specs.Chains.{first_follow, follow_of, ChainFault, State
 use Rattle.recovery_model.specs.declared.open_rule.OpenRule.{OpenRule}
 use Rattle.recovery_model.specs.Calls.{InputMismatch}
 use Rattle.recovery_model.specs.Views.{View, Pair, here, chain}
-use Rattle.recovery_model.specs.Repairs.{next_state}
+use Rattle.recovery_model.specs.RecoverInline.{next_state}
 use Rattle.recovery_model.specs.Denials.{first_calls}
 use Rattle.recovery_model.specs.Coherent.{is_in, is_invoked, stands, is_sound_chain, is_sound_pair, is_sound_saved, is_sound_kept, Coherent, NeverDenied}
 use Rattle.recovery_model.proofs.Fitting.{Fit, fit_of}

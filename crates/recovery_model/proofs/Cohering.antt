@@ -23,9 +23,9 @@ use Rattle.recovery_model.specs.Sets.{WithinSets}
 use Rattle.recovery_model.specs.Views.{View, Pair, here, ahead, chain, own_pair, no_error_states}
 use Rattle.recovery_model.specs.Passing.{Reason, Taken, Deleted, Searched, innermost, raised, add, pass, pass_many, before, begin_error_condition, end_error_condition}
 use Rattle.recovery_model.specs.Outcomes.{Outcome, does}
-use Rattle.recovery_model.specs.Repairs.{missing_symbol, single_token_deletion, mismatch_at, mismatches, match_leaves, matched}
-use Rattle.recovery_model.specs.Syncs.{choice_here, stops_at, sync_leaves, is_misplaced, acts, sync}
-use Rattle.recovery_model.specs.Recovering.{failsafe, searching, search_length, recover_leaves, recover}
+use Rattle.recovery_model.specs.RecoverInline.{missing_symbol, single_token_deletion, mismatch_at, mismatches, match_leaves, matched}
+use Rattle.recovery_model.specs.Sync.{choice_here, stops_at, sync_leaves, is_misplaced, acts, sync}
+use Rattle.recovery_model.specs.Recover.{failsafe, searching, search_length, recover_leaves, recover}
 use Rattle.recovery_model.specs.Denials.{denial, none_open, is_elsewhere, is_called, is_token_type, too_few}
 use Rattle.recovery_model.specs.Steps.{entered, left, reports, accepted, step}
 use Rattle.recovery_model.specs.TapeLaw.{New}
@@ -140,7 +140,6 @@ module _ (n : Net) where
 
   abbrev Does : Outcome → Type 0
   Does o = Coherent n o.view
-
 
   module _ (w : WithinSets) (v : View) (c : Coherent n v) where
     after_match : (fit : Bool) → 0 < length v.open_rules → Does (matched fit n w v)

@@ -11,8 +11,8 @@ use Rattle.recovery_model.specs.Sets.{WithinSets, joined}
 use Rattle.recovery_model.specs.Views.{View, Pair, current, place, ahead, here, follows, own_pair}
 use Rattle.recovery_model.specs.Passing.{Reason, Taken, Deleted, Searched, before, pass, pass_many, in_error_recovery_mode, begin_error_condition, given, end_error_condition}
 use Rattle.recovery_model.specs.Outcomes.{Outcome, does, telling}
-use Rattle.recovery_model.specs.Repairs.{expects, is_unwanted, is_missing, missing_symbol, unwanted_token, missing_token, single_token_deletion, single_token_insertion, mismatch_at, mismatches, take_token, recover_inline, matched}
-use Rattle.recovery_model.specs.Syncs.{Choice, Begins, GoesBack, Neither, choice_here, may_come, may_be_nothing, stops_at, acts, sync}
+use Rattle.recovery_model.specs.RecoverInline.{expects, is_unwanted, is_missing, missing_symbol, unwanted_token, missing_token, single_token_deletion, single_token_insertion, mismatch_at, mismatches, take_token, recover_inline, matched}
+use Rattle.recovery_model.specs.Sync.{Choice, Begins, GoesBack, Neither, choice_here, may_come, may_be_nothing, stops_at, acts, sync}
 use Rattle.recovery_model.specs.Histories.{is_accepted, is_of_the_tape, begins_choice}
 use Rattle.recovery_model.proofs.Shown.{Rises, Numbered, onward_ends, onward_numbered, passed_moves, ahead_of_eof}
 use Rattle.recovery_model.proofs.Cases.{by_match, by_acts, by_sync}

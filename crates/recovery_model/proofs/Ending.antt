@@ -12,7 +12,7 @@ use Rattle.recovery_model.specs.Sets.{WithinSets, Agree, recovery}
 use Rattle.recovery_model.specs.Views.{View, place, follows}
 use Rattle.recovery_model.specs.Passing.{Searched, pass_many}
 use Rattle.recovery_model.specs.Outcomes.{Outcome}
-use Rattle.recovery_model.specs.Recovering.{failsafe, searching, search_length, recover}
+use Rattle.recovery_model.specs.Recover.{failsafe, searching, search_length, recover}
 use Rattle.recovery_model.specs.Steps.{step}
 use Rattle.recovery_model.specs.Journals.{Event, event}
 use Rattle.recovery_model.specs.Histories.{is_accepted, is_recover, open_follows, shown_from, searched_from}

@@ -14,7 +14,7 @@ use Rattle.recovery_model.specs.Sets.{WithinSets}
 use Rattle.recovery_model.specs.Views.{View}
 use Rattle.recovery_model.specs.Outcomes.{Outcome}
 use Rattle.recovery_model.specs.Histories.{is_accepted}
-use Rattle.recovery_model.specs.Syncs.{choice_here}
+use Rattle.recovery_model.specs.Sync.{choice_here}
 use Rattle.recovery_model.specs.Denials.{faults, first_fault, denial, DeniedWithFirst}
 use Rattle.recovery_model.specs.Steps.{accepted, step, DeniedLeavesAll}
 use Rattle.recovery_model.proofs.Cases.{no_first, by_step, by_left, by_report, by_match, by_acts, by_sync}

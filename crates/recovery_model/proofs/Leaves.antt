@@ -17,9 +17,9 @@ use Rattle.recovery_model.specs.Sets.{WithinSets}
 use Rattle.recovery_model.specs.Views.{View, current, ahead}
 use Rattle.recovery_model.specs.Passing.{Reason, Taken, Deleted, Searched, leaf, add, pass, pass_many, before, begin_error_condition, end_error_condition}
 use Rattle.recovery_model.specs.Outcomes.{Outcome}
-use Rattle.recovery_model.specs.Repairs.{missing_symbol, single_token_deletion, single_token_insertion, matched}
-use Rattle.recovery_model.specs.Syncs.{Choice, choice_here, stops_at, acts, sync}
-use Rattle.recovery_model.specs.Recovering.{failsafe, searching, search_length, recover}
+use Rattle.recovery_model.specs.RecoverInline.{missing_symbol, single_token_deletion, single_token_insertion, matched}
+use Rattle.recovery_model.specs.Sync.{Choice, choice_here, stops_at, acts, sync}
+use Rattle.recovery_model.specs.Recover.{failsafe, searching, search_length, recover}
 use Rattle.recovery_model.specs.Steps.{left, reports, accepted, step}
 use Rattle.recovery_model.specs.Journals.{run}
 use Rattle.recovery_model.specs.Law.{leaf_mark, token_mark, is_of_a_dropped}

@@ -13,9 +13,9 @@ use Rattle.recovery_model.specs.Sets.{WithinSets}
 use Rattle.recovery_model.specs.Views.{View, current, place, ahead}
 use Rattle.recovery_model.specs.Passing.{Taken, Searched, pass, end_error_condition}
 use Rattle.recovery_model.specs.Outcomes.{Outcome}
-use Rattle.recovery_model.specs.Repairs.{matched}
-use Rattle.recovery_model.specs.Syncs.{sync}
-use Rattle.recovery_model.specs.Recovering.{failsafe, searching, search_length, recover}
+use Rattle.recovery_model.specs.RecoverInline.{matched}
+use Rattle.recovery_model.specs.Sync.{sync}
+use Rattle.recovery_model.specs.Recover.{failsafe, searching, search_length, recover}
 use Rattle.recovery_model.specs.Steps.{left, reports, accepted, step}
 use Rattle.recovery_model.specs.Journals.{Event}
 use Rattle.recovery_model.specs.Histories.{is_accepted, is_of_the_tape, begins_choice, present, next_place, ends_error_condition, is_recover, skips}

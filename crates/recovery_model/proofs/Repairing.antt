@@ -14,9 +14,9 @@ use Rattle.recovery_model.specs.Sets.{WithinSets}
 use Rattle.recovery_model.specs.Views.{View, current, place, here, ahead, new_strategy_state}
 use Rattle.recovery_model.specs.Passing.{Reason, Searched, before, pass, pass_many, in_error_recovery_mode, begin_error_condition}
 use Rattle.recovery_model.specs.Outcomes.{Outcome}
-use Rattle.recovery_model.specs.Repairs.{single_token_deletion, matched}
-use Rattle.recovery_model.specs.Syncs.{choice_here, may_come, may_be_nothing, stops_at, acts, sync}
-use Rattle.recovery_model.specs.Recovering.{failsafe, searching, search_length, recover}
+use Rattle.recovery_model.specs.RecoverInline.{single_token_deletion, matched}
+use Rattle.recovery_model.specs.Sync.{choice_here, may_come, may_be_nothing, stops_at, acts, sync}
+use Rattle.recovery_model.specs.Recover.{failsafe, searching, search_length, recover}
 use Rattle.recovery_model.specs.Denials.{denial, may_report, none_open}
 use Rattle.recovery_model.specs.Steps.{left, reports, accepted, step}
 use Rattle.recovery_model.specs.Journals.{Event, event, run, journal}

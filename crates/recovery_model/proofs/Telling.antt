@@ -15,7 +15,7 @@ use Rattle.recovery_model.specs.Sets.{WithinSets}
 use Rattle.recovery_model.specs.Views.{View, place, here, ahead, new_strategy_state}
 use Rattle.recovery_model.specs.Passing.{Searched, pass, begin_error_condition, pass_many}
 use Rattle.recovery_model.specs.Outcomes.{Outcome, does}
-use Rattle.recovery_model.specs.Recovering.{failsafe_applies, failsafe, searching, search_length, recover}
+use Rattle.recovery_model.specs.Recover.{failsafe_applies, failsafe, searching, search_length, recover}
 use Rattle.recovery_model.specs.Denials.{denial, is_elsewhere, none_open, is_called}
 use Rattle.recovery_model.specs.Steps.{left, reports, accepted, step}
 use Rattle.recovery_model.specs.Journals.{Event, event, run, journal}

@@ -13,7 +13,7 @@ use Rattle.recovery_model.specs.declared.open_rule.OpenRule.{OpenRule}
 use Rattle.recovery_model.specs.Calls.{InputMismatch}
 use Rattle.recovery_model.specs.Sets.{WithinSets}
 use Rattle.recovery_model.specs.Views.{View, Pair, here, chain}
-use Rattle.recovery_model.specs.Repairs.{next_state}
+use Rattle.recovery_model.specs.RecoverInline.{next_state}
 use Rattle.recovery_model.specs.Denials.{first_calls}
 use Rattle.recovery_model.specs.Steps.{step}
 use Rattle.recovery_model.specs.TapeLaw.{New}
@@ -41,14 +41,14 @@ is_sound_chain n ss = nat_le (length ss) 63 && list_all (λ s. is_some (follow_o
 abbrev pub is_sound_pair : Net → ℕ → List ℕ → Bool
 is_sound_pair n s ss = nat_lt s (size n) && is_sound_chain n ss
 
--- the same of a pair that is saved, and of a mismatch that is kept, if there is one
+-- the same of the saved pair, and of the latest input mismatch, if there is one
 abbrev pub is_sound_saved : Net → Option Pair → Bool
 is_sound_saved n p = option_map_or (λ q. is_sound_pair n q.state q.chain) p true
 
 abbrev pub is_sound_kept : Net → Option InputMismatch → Bool
 is_sound_kept n m = option_map_or (λ k. is_sound_pair n k.state k.chain) m true
 
--- At most 64 rules are open, and the parser stands in them; the saved pair and the kept mismatch are sound; there are 512 marks;
+-- At most 64 rules are open, and the parser stands in them; the saved pair and the latest input mismatch are sound; there is a mark for each of 512 states;
 -- and the stream keeps its law.
 pub record Coherent (n : Net) (v : View) : Type 0 where
   pub open_bounded : length v.open_rules ≤ 64

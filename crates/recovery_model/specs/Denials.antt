@@ -14,9 +14,9 @@ use Rattle.recovery_model.specs.Sets.{WithinSets}
 use Rattle.recovery_model.specs.Views.{View, here, ahead}
 use Rattle.recovery_model.specs.Passing.{innermost}
 use Rattle.recovery_model.specs.Calls.{fits}
-use Rattle.recovery_model.specs.Repairs.{match_leaves}
-use Rattle.recovery_model.specs.Syncs.{sync_leaves, is_misplaced}
-use Rattle.recovery_model.specs.Recovering.{recover_leaves}
+use Rattle.recovery_model.specs.RecoverInline.{match_leaves}
+use Rattle.recovery_model.specs.Sync.{sync_leaves, is_misplaced}
+use Rattle.recovery_model.specs.Recover.{recover_leaves}
 
 abbrev pub none_open : View → Bool
 none_open v = length v.open_rules == 0

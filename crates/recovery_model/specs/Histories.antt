@@ -1,4 +1,4 @@
--- What has happened so far, told by accepted calls, their answers, the tokens shown and the net's sets, and never by the notes.
+-- What has happened so far, told by accepted calls, their answers, the tokens shown and the net's sets, and never by the strategy's state.
 -- A history has the latest event first.
 use Rattle.std.specs.Prelude.{ℕ, Bool, true, false, not, ◌&&◌, ◌==◌, List, [], ◌∷◌, filter, nat_le, Option, Some, None, is_none, unwrap_or, option_to_list, if◌then◌else◌}
 use Rattle.std.specs.List.{flat_map}
@@ -11,7 +11,7 @@ use Rattle.recovery_model.specs.declared.call.Call.TheVariants.{State, Enter, Le
 use Rattle.recovery_model.specs.Calls.{Answer, Token, Denied, takes_token, is_sync, is_report, is_recover_call}
 use Rattle.recovery_model.specs.Journals.{Event}
 use Rattle.recovery_model.specs.Sets.{WithinSets}
-use Rattle.recovery_model.specs.Syncs.{Choice, Begins, GoesBack, choice}
+use Rattle.recovery_model.specs.Sync.{Choice, Begins, GoesBack, choice}
 
 -- the present state, and the open rules by the states that invoked them, innermost first
 pub record Standing : Type 0 where
@@ -56,7 +56,7 @@ next_place ts p = at (shown_from p ts)
     at [] = p
     at (t ∷ us) = if is_eof t.typ then p else token_index (token_at us 0)
 
--- a token of the tape is answered: one that is not made up
+-- a token of the tape is answered: one that is not a missing symbol
 abbrev pub is_of_the_tape : Answer → Bool
 is_of_the_tape (Token t) = at t.index
   where
@@ -79,7 +79,7 @@ ends_error_condition n h e =
     is_accepted e.answer
     && (if takes_token e.call then is_of_the_tape e.answer else is_sync e.call && (begins_choice n (present n h) && not (e.after == e.before)))
 
--- a made-up token is answered
+-- a missing symbol is answered
 abbrev pub is_missing_symbol : Answer → Bool
 is_missing_symbol (Token t) = is_none t.index
 is_missing_symbol a = false
@@ -96,7 +96,7 @@ goes_back n s = at (choice (state_at n s).kind)
 abbrev pub is_unfit : WithinSets → List Fields → ℕ → ℕ → Bool
 is_unfit w ts s p = not (w.types s (type_number (token_at (shown_from p ts) 0).typ)) && not (w.end s)
 
--- A fault is reported, unless there is an error condition already: by a call that takes a token and answers a made-up one, by a sync on the
+-- A fault is reported, unless there is an error condition already: by a call that takes a token and answers a missing symbol, by a sync on the
 -- way back of a loop where the token first shown does not fit, and by a report.
 abbrev pub begins_error_condition : Net → WithinSets → List Fields → List Event → Event → Bool
 begins_error_condition n w ts h e =

@@ -51,7 +51,7 @@ leaf_mark l = record { typ = l.typ; index = l.index; line = l.line; column = l.c
 abbrev pub token_mark : Fields → Mark
 token_mark t = record { typ = t.typ; index = t.index; line = t.position.0; column = t.position.1 }
 
--- a leaf of a token that was dropped: it is neither EOF, which stays, nor made up
+-- a leaf of a token that was dropped: it is neither EOF, which stays, nor a missing symbol
 abbrev pub is_of_a_dropped : Leaf → Bool
 is_of_a_dropped l = not (is_eof l.typ) && at l.index
   where
@@ -66,7 +66,7 @@ recovers_at p js = count_by (λ e. is_recover e && (e.before == p)) js
 -- The journal tells where the parser stands; a recover searches from the token first shown, or the failsafe skips that one; and
 -- it ends on the first token that is EOF or may follow an open rule. Tokens are dropped in their order, and what was dropped
 -- and what is shown is what was shown at first; the leaves that were added are those of the dropped tokens, each once and in
--- their order, beside leaves of EOF and of made-up tokens. At a token that is not EOF at most as many recovers are begun as
+-- their order, beside leaves of EOF and of missing symbols. At a token that is not EOF at most as many recovers are begun as
 -- there are states, and one more: then the token is passed.
 pub record Law (n : Net) (first : List Fields) (first_leaves : List Leaf) (js : List Event) (shown : List Fields) (leaves : List Leaf) : Type 0 where
   pub linked : Linked (token_index (token_at first 0)) js

@@ -1,4 +1,4 @@
--- Leaves of the tokens that a stream shows, and of those made up in the place of one of its tape, are within the limits.
+-- Leaves of the tokens that a stream shows, and of missing symbols in the place of a token of its tape, are within the limits.
 use Rattle.std.specs.Prelude.{ℕ, ◌<◌, ◌≤◌, List, length, pos, ◌≤ℤ◌, Option, None}
 use Rattle.token.specs.declared.token_type.TokenType.{TokenType}
 use Rattle.token.specs.Tokens.{Fields, type_number}
@@ -23,7 +23,7 @@ ShownFits shown =
     (k : ℕ) → k < length shown → (kind : LeafKind) (depth rule : ℕ) → RestFits depth rule (token_at shown k).typ →
     LeafFits (leaf_of kind depth rule (token_at shown k).typ (token_at shown k).index (token_at shown k).position)
 
--- a leaf of a token that is made up: it has no token index, and the line and column of a token of the tape
+-- a leaf of a missing symbol: it has no token index, and the line and column of a token of the tape
 abbrev pub MissingSymbolFits : List Fields → Type 0
 MissingSymbolFits tape =
     (k : ℕ) → k < length tape → (kind : LeafKind) (depth rule : ℕ) (typ : TokenType) → RestFits depth rule typ →

@@ -5,9 +5,9 @@ pub mod LeafLimits
 pub mod Views
 pub mod Passing
 pub mod Outcomes
-pub mod Repairs
-pub mod Syncs
-pub mod Recovering
+pub mod RecoverInline
+pub mod Sync
+pub mod Recover
 pub mod Denials
 pub mod Steps
 pub mod Journals

@@ -1,4 +1,4 @@
--- What the strategy notes down is what a history says.
+-- The strategy's state is what a history says.
 use Rattle.std.specs.Prelude.{◌≡◌, ℕ, ◌<◌, false, List, ◌++◌, length, map, unwrap_or, slice_index_or, All}
 use Rattle.atn_graph.specs.Net.{Net, size}
 use Rattle.token.specs.Tokens.{Fields}
@@ -15,7 +15,7 @@ pub record Inside (n : Net) (p : Standing) : Type 0 where
   pub state : unwrap_or p.state 0 < size n
   pub invoking : All (λ i. unwrap_or i 0 < size n) p.invoking
 
--- The parser stands where its calls brought it, the latest search and the states of recovers are noted as the history tells
+-- The parser stands where its calls brought it, the last error index and the last error states are as the history tells
 -- them, and the tokens shown are those of the first from the present place on, after some that were dropped.
 pub record MatchesHistory (n : Net) (first : List Fields) (h : List Event) (v : View) : Type 0 where
   pub standing : stands v ≡ standing n h

@@ -75,6 +75,6 @@ begin_error_condition v = record v { strategy = record v.strategy { mode = InErr
 abbrev pub given : Told → View → List Told
 given t v = if in_error_recovery_mode v then [] else t ∷ []
 
--- The error condition is ended: mode, place and marks are cleared, and the saved pair stays.
+-- The error condition is ended: the mode, the last error index and the last error states are cleared, and the saved pair stays.
 abbrev pub end_error_condition : View → View
 end_error_condition v = record v { strategy = record v.strategy { mode = Normal; last_error_index = None; last_error_states = no_error_states } }

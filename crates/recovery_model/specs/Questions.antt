@@ -6,7 +6,7 @@ use Rattle.atn_graph.specs.Net.{Net}
 use Rattle.ll1_analyzer.specs.Sets.{Within, Expected, InContext, Recovery}
 use Rattle.recovery_model.specs.Sets.{WithinSets, within, recovery}
 use Rattle.recovery_model.specs.Views.{View, here, follows}
-use Rattle.recovery_model.specs.Repairs.{expects}
+use Rattle.recovery_model.specs.RecoverInline.{expects}
 
 -- With no rule open each is denied; and nothing else is.
 abbrev pub OwnFault : View → Denial → Type 0

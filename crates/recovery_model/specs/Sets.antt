@@ -1,4 +1,4 @@
--- The sets of types by which the parser repairs, as tests of a type's number.
+-- The sets of types by which the parser recovers, as tests of a type's number.
 use Rattle.std.specs.Prelude.{ℕ, Bool, false, ◌&&◌, ◌||◌, List, [], ◌∷◌, ℤ, Decides}
 use Rattle.std.specs.List.{list_any}
 use Rattle.std.specs.Ordering.{int_eq}

@@ -13,9 +13,9 @@ use Rattle.recovery_model.specs.Sets.{WithinSets, expected, no_types}
 use Rattle.recovery_model.specs.Views.{View, current, ahead}
 use Rattle.recovery_model.specs.Passing.{told_of, begin_error_condition, given}
 use Rattle.recovery_model.specs.Outcomes.{Outcome, does, telling}
-use Rattle.recovery_model.specs.Repairs.{matched}
-use Rattle.recovery_model.specs.Syncs.{sync}
-use Rattle.recovery_model.specs.Recovering.{recover}
+use Rattle.recovery_model.specs.RecoverInline.{matched}
+use Rattle.recovery_model.specs.Sync.{sync}
+use Rattle.recovery_model.specs.Recover.{recover}
 use Rattle.recovery_model.specs.Denials.{denial}
 
 -- The rule is opened, with the state as its invoking state, and its start state is set.
@@ -30,14 +30,14 @@ left v = at v.open_rules
     at [] = does v Done
     at (o ∷ os) = does (record v { state = o.invoking; open_rules = os }) (Left o.leaves)
 
--- what is told of the mismatch that is kept: the types that were expected where it arose
+-- what is told of the latest input mismatch: the types that were expected where it arose
 abbrev pub mismatched : Net → WithinSets → InputMismatch → Told
 mismatched n w m = told_of MismatchReport m.token (expected w m.state (follow_states n m.chain))
 
 abbrev pub reporting : Told → View → Outcome
 reporting t v = telling (given t v) (does (begin_error_condition v) Done)
 
--- Kind 1 is no viable alternative, 2 the mismatch that is kept, 3 a failed predicate. Kinds 1 and 3 tell no expected types.
+-- Kind 1 is no viable alternative, 2 the latest input mismatch, 3 a failed predicate. Kinds 1 and 3 tell no expected types.
 abbrev pub reports : Net → WithinSets → ℕ → View → Outcome
 reports n w k v =
     if k == 2 then at v.input_mismatch

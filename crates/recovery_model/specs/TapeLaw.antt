@@ -1,4 +1,4 @@
--- The theorems: every list of calls of a new parser keeps the tape law, and the notes are what the law's words say.
+-- The theorems: every list of calls of a new parser keeps the tape law, and the strategy's state is what the law's words say.
 use Rattle.std.specs.Prelude.{◌≡◌, List, [], reverse, None, ℕ, ℤ, Decides}
 use Rattle.atn.specs.declared.atn.Atn.{Atn}
 use Rattle.atn.specs.Checked.{net_of}
@@ -34,7 +34,7 @@ KeepsLaw n m v cs = Law n v.shown v.leaves (journal_of m cs v) (run_of m cs v).s
 abbrev pub TapeLaw : Type 0
 TapeLaw = (a : Atn) (w : WithinSets) → Agree (net_of a) w → (v : View) → New v → (cs : List Call) → KeepsLaw (net_of a) (step (net_of a) w) v cs
 
--- What a parser notes is what the history says: the mode, by faults that were reported, and the rest.
+-- The strategy's state is what the history says: the mode, by faults that were reported, and the rest.
 pub record Told (n : Net) (w : WithinSets) (first : List Fields) (h : List Event) (v : View) : Type 0 where
   pub tells : MatchesHistory n first h v
   pub mode : in_error_recovery_mode v ≡ in_error_condition n w first h

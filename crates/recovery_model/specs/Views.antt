@@ -17,16 +17,16 @@ pub record Pair : Type 0 where
   pub state : ℕ
   pub chain : List ℕ
 
--- what the strategy has noted: whether it is in error recovery, from where it last searched, the states in which it was called to
--- recover, and the pair that it saved
+-- the strategy's state: its mode, the place from which it last searched, the states in which it was called to recover since the
+-- error condition was last ended, and the pair that sync saved
 pub record StrategyState : Type 0 where
   pub mode : Mode
   pub last_error_index : Option ℕ
   pub last_error_states : List Bool
   pub next_tokens : Option Pair
 
--- The stream's tape, and what it shows; the leaves, and the room for more; the state; the open rules, innermost first; what is
--- noted; the mismatch that is kept; and whether tokens of the stream's kind have a start and a stop.
+-- The stream's tape, and what it shows; the leaves, and the room for more; the state; the open rules, innermost first; the
+-- strategy's state; the latest input mismatch; and whether tokens of the stream's kind have a start and a stop.
 pub record View : Type 0 where
   pub tape : List Fields
   pub shown : List Fields

@@ -16,7 +16,7 @@ ghost use Rattle.atn_graph.specs.Net.{Net};
 ghost use Rattle.token.specs.Tokens.{Fields};
 ghost use Rattle.token_stream.specs.Streams.{Shows};
 
-// Every list of calls of a new parser keeps the tape law; and what the parser notes, by which it recovers, is
+// Every list of calls of a new parser keeps the tape law; and the strategy's state, by which it recovers, is
 // what the law's words say.
 pub fn tape_law()
     ensures sets { (a : Atn) (w : WithinSets) → Agree (net_of a) w → SetsAreWalks a w }
@@ -30,7 +30,7 @@ pub fn sets_exist()
     ensures once { (n : Net) → SetsOnce n }
 {}
 
-// A leaf can be made of every token that a stream shows, and of one that is made up in the place of a token of the tape.
+// A leaf can be made of every token that a stream shows, and of a missing symbol in the place of a token of the tape.
 pub fn leaves_fit()
     ensures shown_leaves { (tape shown : List Fields) → Shows tape shown → ShownFits shown }
     ensures missing_symbols { (tape shown : List Fields) → Shows tape shown → MissingSymbolFits tape }

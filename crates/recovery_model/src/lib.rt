@@ -5,6 +5,6 @@ pub mod answer;
 pub mod call;
 pub mod event;
 pub mod law;
-pub mod strategy_state;
 pub mod open_rule;
+pub mod strategy_state;
 pub mod token_fields;

@@ -1,4 +1,4 @@
-// What the strategy notes down.
+// The state of the error strategy.
 use crate::answer::Chain;
 
 #[derive(Clone, Copy, PartialEq, Eq, Debug)]
@@ -17,9 +17,9 @@ pub struct NextTokens {
 #[derive(Clone, Copy)]
 pub struct StrategyState {
     pub mode: Mode,
-    // from where the last recover of this repair searched
+    // from where the last recover since the error condition was last ended searched
     pub last_error_index: Option<u16>,
-    // the states in which recovers of this repair were called
+    // the states in which recovers were called since then
     pub last_error_states: [bool; 512],
     pub next_tokens: Option<NextTokens>,
 }

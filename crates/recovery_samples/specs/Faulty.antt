@@ -10,7 +10,7 @@ use Rattle.recovery_model.specs.Sets.{WithinSets, Agree, no_types}
 use Rattle.recovery_model.specs.Views.{View, current, place, ahead}
 use Rattle.recovery_model.specs.Passing.{Searched, pass_many, end_error_condition}
 use Rattle.recovery_model.specs.Outcomes.{Outcome, does}
-use Rattle.recovery_model.specs.Recovering.{searching, failsafe, search_length, recover}
+use Rattle.recovery_model.specs.Recover.{searching, failsafe, search_length, recover}
 use Rattle.recovery_model.specs.Denials.{denial}
 use Rattle.recovery_model.specs.Steps.{accepted, refused, step}
 use Rattle.recovery_model.specs.Journals.{Event, Machine, run_of, journal_of}

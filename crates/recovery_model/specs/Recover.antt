@@ -23,7 +23,7 @@ failsafe_applies v = searched_here v && slice_index_or v.strategy.last_error_sta
 abbrev pub failsafe : View → View
 failsafe v = if failsafe_applies v then pass Searched v else v
 
--- the search is noted, with its place and its state
+-- the place and the state of the search are the last error index and one of the last error states
 abbrev pub searching : View → View
 searching v = record v { strategy = record v.strategy { last_error_index = Some (place v); last_error_states = slice_set v.strategy.last_error_states (here v) true } }
 

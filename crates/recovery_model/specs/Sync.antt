@@ -8,7 +8,7 @@ use Rattle.recovery_model.specs.Sets.{WithinSets, recovery}
 use Rattle.recovery_model.specs.Views.{View, ahead, here, follows, own_pair}
 use Rattle.recovery_model.specs.Passing.{Searched, before, pass_many, in_error_recovery_mode, begin_error_condition, given}
 use Rattle.recovery_model.specs.Outcomes.{Outcome, does, telling}
-use Rattle.recovery_model.specs.Repairs.{expects, is_unwanted, unwanted_token, single_token_deletion, mismatch_at, mismatches}
+use Rattle.recovery_model.specs.RecoverInline.{expects, is_unwanted, unwanted_token, single_token_deletion, mismatch_at, mismatches}
 
 -- the kinds of states on which a parser may stand before a choice: at the start of a block or the entry of a loop, on the way
 -- back of a loop, or neither

@@ -1,4 +1,4 @@
--- Matching a token, and inline repair where it does not match.
+-- Matching a token, and inline recovery where it does not match.
 use Rattle.std.specs.Prelude.{ℕ, ◌-◌, Bool, ℤ, negsuc, Some, None, if◌then◌else◌, get_or, unwrap_or}
 use Rattle.atn_graph.specs.Net.{Net, no_edge, edges_of}
 use Rattle.records.specs.declared.leaf.LeafKind.TheVariants.{Error}
@@ -22,26 +22,26 @@ expects n w v = expected w (here v) (follows n v)
 abbrev pub next_state : Net → ℕ → ℕ
 next_state n s = (get_or (edges_of n s) 0 no_edge).target
 
--- One token is too many: the token after the current one is what is expected.
+-- A token is unwanted: the token after the current one is what is expected.
 abbrev pub is_unwanted : Net → WithinSets → View → Bool
 is_unwanted n w v = expects n w v (ahead v 2)
 
--- One token is missing: the current one is what may come after it.
+-- A token is missing: the current one is what may come after it.
 abbrev pub is_missing : Net → WithinSets → View → Bool
 is_missing n w v = expected w (next_state n (here v)) (follows n v) (ahead v 1)
 
--- the token whose position a made-up one takes: the current one, or the token before the end of the input
+-- the token whose position a missing symbol takes: the current one, or the token before the end of the input
 abbrev pub near : View → Fields
 near v = if is_eof (current v).typ then token_at v.tape (place v - 1) else current v
 
 abbrev pub nowhere : Span
 nowhere = record { start = negsuc 0; stop = negsuc 0 }
 
--- The token that is missing, made up: of the smallest expected type.
+-- The missing symbol: a token of the smallest expected type.
 abbrev pub missing_symbol : Net → WithinSets → View → Fields
 missing_symbol n w v = record { typ = smallest_type (expects n w v); channel = 0; index = None; position = (near v).position; span = kept_span v.has_span nowhere }
 
--- what is told of a token that is too many, and of one that is missing
+-- what is told of an unwanted token, and of a missing one
 abbrev pub unwanted_token : Net → WithinSets → View → Told
 unwanted_token n w v = told_of UnwantedToken (current v) (expects n w v)
 
@@ -56,7 +56,7 @@ single_token_deletion v = end_error_condition (pass Deleted (begin_error_conditi
 abbrev pub single_token_insertion : Net → WithinSets → View → View
 single_token_insertion n w v = add Error (missing_symbol n w v) (begin_error_condition v)
 
--- The current token is a mismatch at that pair, and it is kept.
+-- The current token is a mismatch at that pair, and is the latest from then on.
 abbrev pub mismatch_at : Pair → View → InputMismatch
 mismatch_at p v = record { token = current v; state = p.state; chain = p.chain }
 
@@ -73,11 +73,11 @@ recover_inline n w v =
     else if is_missing n w v then telling (given (missing_token n w v) v) (does (single_token_insertion n w v) (Token (missing_symbol n w v)))
     else mismatches (mismatch_at (unwrap_or v.strategy.next_tokens (own_pair v)) v) v
 
--- how many leaves a repair adds
+-- how many leaves inline recovery adds
 abbrev pub recover_inline_leaves : Net → WithinSets → View → ℕ
 recover_inline_leaves n w v = if is_unwanted n w v then 2 else if is_missing n w v then 1 else 0
 
--- A token that is what is asked for ends the error condition and is taken; for any other the parser repairs.
+-- A token that is what is asked for ends the error condition and is taken; for any other the parser recovers inline.
 abbrev pub matched : Bool → Net → WithinSets → View → Outcome
 matched fit n w v = if fit then take_token (end_error_condition v) else recover_inline n w v
 
