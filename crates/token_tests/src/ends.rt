@@ -15,7 +15,7 @@ fn tape() -> [WordToken; 4] {
     [word(5, 0), hidden(6, 1), word(7, 2), eof(3)]
 }
 
-// Below 1 is the first token that is shown, of this type and own index.
+// Below 1 is the first token that is shown, of this type and token index.
 fn first_below_1<'a, S: TokenStream<'a>>(rt: &impl Abort, s: &mut S, first: (i32, u16)) {
     let (number, index) = first;
     for k in [i32::MIN, -1, 0, 1] {
