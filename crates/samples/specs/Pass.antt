@@ -37,8 +37,8 @@ pass = record {
   intervals = [];
 }
 
--- The within-rule sets of four states of the pass net: its loop goes on with the type 1, or ends with the input. Of the four a
--- walk can end on a stop state from the stop state alone, and from there with no type.
+-- The within-rule sets of four states of the pass net: its loop goes on with the type 1, or ends with the input. Walks from the
+-- stop state end with no type; of the four, from that state alone a walk can end on a stop state.
 pub record PassSets : Type 0 where
   pub at_loop_entry : (x : ℤ) → (Types pass 1 x ↔ ((x ≡ eof) ⊎ (x ≡ pos 1)))
   pub at_loop_back : (x : ℤ) → (Types pass 3 x ↔ ((x ≡ eof) ⊎ (x ≡ pos 1)))
