@@ -4,3 +4,5 @@
 pub mod faulty;
 pub mod list_run;
 pub mod sample;
+#[cfg(test)]
+mod sizes;
