@@ -1,8 +1,8 @@
 -- What a bounded list holds, and what lies behind it.
 use Rattle.std.specs.Prelude.{List, take, drop}
-use Rattle.records.specs.declared.bounded_list.BoundedList.{BoundedList}
+use Rattle.fixed_vec.specs.declared.bounded_list.BoundedList.{BoundedList}
 
--- the records, in their order
+-- the items, in their order
 abbrev pub listed : {T : Type 0} → BoundedList T → List T
 listed l = take l.len l.slots.now
 
