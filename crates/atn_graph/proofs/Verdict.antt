@@ -1,5 +1,5 @@
 -- Tables write at most one net, so the net that was read is the one that the verdict is about.
-use Rattle.std.proofs.Common.{◌≡◌, ◌<◌, true, false, length, get_or, take, sym, ap, ◌∙◌, subst, arith}
+use Rattle.std.proofs.Common.{◌≡◌, true, false, length, get_or, take, sym, ap, ◌∙◌, subst, arith}
 use Rattle.std.proofs.lemmas.List.{ext_get_or}
 use Rattle.std.proofs.lemmas.Bool.{both_ways}
 use Rattle.errors.specs.declared.denial.Denial.{Denial}

@@ -39,11 +39,15 @@ short_table t =
 abbrev pub outside : ℕ → ℕ → ℤ → Bool
 outside low high n = int_lt n (pos low) || int_lt (pos high) n
 
+-- how many states a net has at most
+abbrev pub max_states : ℕ
+max_states = 512
+
 -- 1 to 64 rules, 2 to 512 states, at most 2,048 edges and 1,024 intervals
 abbrev pub counts_outside : Counts → Bool
 counts_outside c =
     outside 1 64 c.rules
-    || (outside 2 512 c.states || (outside 0 2048 c.edges || outside 0 1024 c.intervals))
+    || (outside 2 max_states c.states || (outside 0 2048 c.edges || outside 0 1024 c.intervals))
 
 -- a largest token type of 1 to 255
 abbrev pub type_outside : ℤ → Bool

@@ -6,7 +6,7 @@ ghost use Rattle.fixed_vec.specs.Items.{items};
 ghost use Rattle.atn_graph.specs.declared.lists.Rule.{Rule as RuleStates};
 ghost use Rattle.atn_graph.specs.Reading.{IsCount, FirstRows, KindRead, StatesRead};
 ghost use Rattle.atn_graph.specs.Net.{Net, net};
-ghost use Rattle.atn_graph.specs.Tables.{rows, short_table, outside_limits};
+ghost use Rattle.atn_graph.specs.Tables.{max_states, rows, short_table, outside_limits};
 ghost use Rattle.atn_graph.specs.Written.{rule_row, WritesState, WritesEdge, WritesNet};
 
 use crate::atn_state::{AtnState, StateKind};
@@ -124,7 +124,7 @@ fn read_state(row: StateRow, first: usize) -> Option<AtnState>
 
 // The states, each with its run of edges after the runs of those before it.
 fn read_states(rows: &[StateRow]) -> Option<FixedVec<AtnState, MAX_STATES>>
-    requires bounded { length rows.now ≤ MAX_STATES }
+    requires bounded { length rows.now ≤ max_states }
     ensures { MatchOption result
         ((ss : List AtnState) → StatesRead rows.now (length rows.now) ss → ⊥)
         (λ ss. (length (items ss) ≡ length rows.now)
