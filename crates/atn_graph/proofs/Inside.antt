@@ -11,7 +11,7 @@ use Rattle.atn_graph.specs.declared.transition.Move.TheVariants.{Along, Call, To
 use Rattle.atn_graph.specs.declared.transition.TransitionKind.{TransitionKind}
 use Rattle.atn_graph.specs.declared.transition.TransitionKind.TheVariants.{Epsilon, Range, Rule, Predicate, Atom, Action, Set, NotSet, Wildcard, Precedence}
 use Rattle.atn_graph.specs.Kinds.{move_of}
-use Rattle.atn_graph.specs.Tables.{outside, counts_outside}
+use Rattle.atn_graph.specs.Tables.{outside, counts_outside, type_outside}
 use Rattle.atn_graph.specs.Net.{Net, net, size, Of, Runs, end_before, rule_at, state_at, edge_at}
 use Rattle.atn_graph.specs.Rules.{IsSoundNet, in_rule, eof_only, range_fits, interval_fits, set_fits, kind_fits, LabelFits, counts_of}
 use Rattle.atn_graph.proofs.Sizes.{few_items}
@@ -63,7 +63,7 @@ kind_follow n s t Precedence h = tt
 some_states : (g : Graph) → 0 < size (net g.lists)
 some_states g =
     let n = net g.lists in
-    let few = (or_parts (counts_outside (counts_of n)) (outside 1 255 n.max) g.limits).0 in
+    let few = (or_parts (counts_outside (counts_of n)) (type_outside n.max) g.limits).0 in
     let states = (or_parts (outside 2 512 (pos (size n))) _ (or_parts (outside 1 64 (pos (length n.rules))) _ few).1).0 in
     omega (arith, ints, (or_parts (lt_z (pos (size n)) (pos 2)) _ states).0)
 

@@ -11,7 +11,7 @@ use Rattle.atn_graph.specs.declared.tables.RuleRow.{RuleRow}
 use Rattle.atn_graph.specs.declared.tables.StateRow.{StateRow}
 use Rattle.atn_graph.specs.declared.tables.EdgeRow.{EdgeRow}
 use Rattle.atn_graph.specs.declared.atn_state.AtnState.{AtnState}
-use Rattle.atn_graph.specs.Tables.{Rows, shorter, short_table, outside, counts_outside, outside_limits}
+use Rattle.atn_graph.specs.Tables.{Rows, shorter, short_table, outside, counts_outside, type_outside, outside_limits}
 use Rattle.atn_graph.specs.Net.{Net, no_rule, no_state, no_edge, end_before}
 use Rattle.atn_graph.specs.Written.{WritesNet, rule_row, no_rule_row, WritesState, no_state_row, WritesEdge, no_edge_row}
 use Rattle.atn_graph.specs.Reading.{IsCount, FirstRows, StatesRead}
@@ -77,7 +77,7 @@ counts_there t long limits =
     let a = or_parts (shorter (length t.rules) t.counts.rules) _ long in
     let b = or_parts (shorter (length t.states) t.counts.states) _ a.1 in
     let d = or_parts (shorter (length t.edges) t.counts.edges) _ b.1 in
-    let few = (or_parts (counts_outside t.counts) (outside 1 255 t.max) limits).0 in
+    let few = (or_parts (counts_outside t.counts) (type_outside t.max) limits).0 in
     let p = or_parts (outside 1 64 t.counts.rules) _ few in
     let q = or_parts (outside 2 512 t.counts.states) _ p.1 in
     let r = or_parts (outside 0 2048 t.counts.edges) _ q.1 in

@@ -24,7 +24,9 @@ state_kind_number LoopEnd = 12
 
 -- r is the kind with the number n, or the denial where no kind has it
 abbrev pub KindNumbered : ℤ → Result StateKind Denial → Type 0
-KindNumbered n r = MatchResult r (λ k. pos (state_kind_number k) ≡ n) (λ d. (d ≡ BrokenRule) × ((k : StateKind) → pos (state_kind_number k) ≢ n))
+KindNumbered n r = MatchResult r
+    (λ k. pos (state_kind_number k) ≡ n)
+    (λ d. (d ≡ BrokenRule) × ((k : StateKind) → pos (state_kind_number k) ≢ n))
 
 -- a rule's start or stop state
 abbrev pub is_start : StateKind → Bool
@@ -45,7 +47,8 @@ transition_number (NotSet f c) = 8
 transition_number Wildcard = 9
 transition_number Precedence = 10
 
--- Epsilon, predicate, action and precedence edges lead to their target, a rule edge calls, the others take a token.
+-- Epsilon, predicate, action and precedence edges lead to their target, a rule edge calls, the others
+-- take a token.
 abbrev pub move_of : TransitionKind → Move
 move_of Epsilon = Along
 move_of (Range i) = Token

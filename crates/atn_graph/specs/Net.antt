@@ -53,8 +53,15 @@ end_before ss (suc s) = (get_or ss s no_state).end
 
 -- the edges of each state begin where those before it end
 abbrev pub Runs : Net → Type 0
-Runs n = (s : ℕ) → s < size n → ((state_at n s).first ≡ end_before n.states s) × ((state_at n s).first ≤ (state_at n s).end)
+Runs n = (s : ℕ) → s < size n
+    → ((state_at n s).first ≡ end_before n.states s) × ((state_at n s).first ≤ (state_at n s).end)
 
 -- the net in its tables
 abbrev pub net : Lists → Net
-net l = record { max = l.max_token_type; rules = items l.rules; states = items l.states; edges = items l.edges; intervals = items l.intervals }
+net l = record {
+  max = l.max_token_type;
+  rules = items l.rules;
+  states = items l.states;
+  edges = items l.edges;
+  intervals = items l.intervals;
+}

@@ -8,7 +8,7 @@ use Rattle.atn_graph.specs.declared.transition.Transition.{Transition}
 use Rattle.atn_graph.specs.declared.transition.TransitionKind.{TransitionKind}
 use Rattle.atn_graph.specs.declared.transition.TransitionKind.TheVariants.{Epsilon, Range, Rule, Predicate, Atom, Action, Set, NotSet, Wildcard, Precedence}
 use Rattle.atn_graph.specs.declared.tables.Counts.{Counts}
-use Rattle.atn_graph.specs.Tables.{outside, counts_outside}
+use Rattle.atn_graph.specs.Tables.{counts_outside, type_outside}
 use Rattle.atn_graph.specs.Kinds.{is_start, is_stop}
 use Rattle.atn_graph.specs.Net.{Net, rule_at, state_at, edge_at, size, Of}
 
@@ -36,14 +36,17 @@ part n first count = take count (drop first n.intervals)
 
 -- one interval or more, all there, each a range or just EOF
 abbrev pub set_fits : Net → ℕ → ℕ → Bool
-set_fits n first count = nat_le 1 count && (nat_le (first + count) (length n.intervals) && all_fit n (part n first count))
+set_fits n first count =
+    nat_le 1 count && (nat_le (first + count) (length n.intervals) && all_fit n (part n first count))
 
--- An edge of the state s that leads to state number t. A rule edge is its state's only edge, leads to the named rule's start,
--- and goes on in its own rule; any other edge leads to a state of its own rule.
+-- An edge of the state s that leads to state number t. A rule edge is its state's only edge, leads to
+-- the named rule's start, and goes on in its own rule; any other edge leads to a state of its own rule.
 abbrev pub kind_fits : Net → AtnState → ℕ → TransitionKind → Bool
 kind_fits n s t Epsilon = in_rule n t s.rule
 kind_fits n s t (Range i) = in_rule n t s.rule && range_fits n i
-kind_fits n s t (Rule r f) = s.end == s.first + 1 && (nat_lt r (length n.rules) && (t == (rule_at n r).start && in_rule n f s.rule))
+kind_fits n s t (Rule r f) =
+    s.end == s.first + 1
+    && (nat_lt r (length n.rules) && (t == (rule_at n r).start && in_rule n f s.rule))
 kind_fits n s t Predicate = in_rule n t s.rule
 kind_fits n s t (Atom l) = in_rule n t s.rule && interval_fits n (from_to l l)
 kind_fits n s t Action = in_rule n t s.rule
@@ -73,8 +76,8 @@ pub record RuleFits (n : Net) (r : ℕ) : Type 0 where
   pub start : in_rule n (rule_at n r).start r ≡ true
   pub stop : in_rule n (rule_at n r).stop r ≡ true
 
--- A state lies in a rule of the net. It is of kind rule start, or rule stop, exactly if it is its rule's start, or stop,
--- and it has no edges exactly if it is a stop state.
+-- A state lies in a rule of the net. It is of kind rule start, or rule stop, exactly if it is its rule's
+-- start, or stop, and it has no edges exactly if it is a stop state.
 pub record PlaceFits (n : Net) (s : ℕ) : Type 0 where
   pub rule : (state_at n s).rule < length n.rules
   pub start : is_start (state_at n s).kind ≡ (s == (rule_at n (state_at n s).rule).start)
@@ -86,7 +89,8 @@ pub record StateFits (n : Net) (s : ℕ) : Type 0 where
   pub place : PlaceFits n s
   pub edges : (j : ℕ) → Of n s j → edge_fits n s (edge_at n j) ≡ true
 
--- The net keeps every rule but for left recursion: its rules and states fit, and the edges of the states use up all edges.
+-- The net keeps every rule but for left recursion: its rules and states fit, and the edges of the states
+-- use up all edges.
 pub record IsSoundNet (n : Net) : Type 0 where
   pub rules : (r : ℕ) → r < length n.rules → RuleFits n r
   pub states : (s : ℕ) → s < size n → StateFits n s
@@ -94,8 +98,13 @@ pub record IsSoundNet (n : Net) : Type 0 where
 
 -- the counts of the net's lists
 abbrev pub counts_of : Net → Counts
-counts_of n = record { rules = pos (length n.rules); states = pos (size n); edges = pos (length n.edges); intervals = pos (length n.intervals) }
+counts_of n = record {
+  rules = pos (length n.rules);
+  states = pos (size n);
+  edges = pos (length n.edges);
+  intervals = pos (length n.intervals);
+}
 
 -- one of them, or the largest type, lies outside the limits
 abbrev pub beyond_limits : Net → Bool
-beyond_limits n = counts_outside (counts_of n) || outside 1 255 n.max
+beyond_limits n = counts_outside (counts_of n) || type_outside n.max

@@ -17,7 +17,11 @@ abbrev pub rule_row : RuleStates → RuleRow
 rule_row r = record { start = pos r.start; stop = pos r.stop }
 
 abbrev pub state_row : AtnState → StateRow
-state_row s = record { rule = pos s.rule; kind = pos (state_kind_number s.kind); edges = pos (s.end - s.first) }
+state_row s = record {
+  rule = pos s.rule;
+  kind = pos (state_kind_number s.kind);
+  edges = pos (s.end - s.first);
+}
 
 -- what the last two columns of an edge's row say; some kinds do not use them
 abbrev pub Columns : EdgeRow → TransitionKind → Type 0
@@ -52,14 +56,18 @@ pub record WritesState (row : StateRow) (before : ℕ) (s : AtnState) : Type 0 w
   pub begins : s.first ≡ before
   pub rises : s.first ≤ s.end
 
--- The tables t write the net n: as many rows as the counts say, each with its numbers; the edges of the states follow one another.
+-- The tables t write the net n: as many rows as the counts say, each with its numbers; the edges of the
+-- states follow one another.
 pub record WritesNet (t : Rows) (n : Net) : Type 0 where
   pub max : n.max ≡ t.max
   pub rule_count : pos (length n.rules) ≡ t.counts.rules
-  pub rules : (r : ℕ) → r < length n.rules → rule_row (rule_at n r) ≡ slice_index_or t.rules r no_rule_row
+  pub rules : (r : ℕ) → r < length n.rules
+      → rule_row (rule_at n r) ≡ slice_index_or t.rules r no_rule_row
   pub state_count : pos (size n) ≡ t.counts.states
-  pub states : (s : ℕ) → s < size n → WritesState (slice_index_or t.states s no_state_row) (end_before n.states s) (state_at n s)
+  pub states : (s : ℕ) → s < size n
+      → WritesState (slice_index_or t.states s no_state_row) (end_before n.states s) (state_at n s)
   pub edge_count : pos (length n.edges) ≡ t.counts.edges
-  pub edges : (j : ℕ) → j < length n.edges → WritesEdge (slice_index_or t.edges j no_edge_row) (edge_at n j)
+  pub edges : (j : ℕ) → j < length n.edges
+      → WritesEdge (slice_index_or t.edges j no_edge_row) (edge_at n j)
   pub interval_count : pos (length n.intervals) ≡ t.counts.intervals
   pub intervals : n.intervals ≡ take (length n.intervals) t.intervals

@@ -1,9 +1,10 @@
-// The kinds of states, by the names and numbers of ANTLR's serialized networks.
-ghost use Rattle.std.specs.Prelude.{◌≡◌, pos};
-ghost use Rattle.atn_graph.specs.Kinds.{state_kind_number, KindNumbered, is_start, is_stop};
+//! States and their kinds.
+ghost use Rattle.std.specs.Prelude.{◌≡◌};
+ghost use Rattle.atn_graph.specs.Kinds.{KindNumbered, is_start, is_stop};
 
 use errors::denial::Denial;
 
+/// The kinds of states, by the names and numbers of ANTLR's serialized networks.
 #[derive(Clone, Copy, PartialEq, Eq, Default, Debug)]
 pub enum StateKind {
     #[default]
@@ -21,18 +22,14 @@ pub enum StateKind {
 }
 
 impl StateKind {
-    pub fn number(self) -> i32
-        ensures { result ≡ pos (state_kind_number self) }
-    {
-        self as i32
-    }
-
+    /// Whether it is the kind of a rule's start state.
     pub fn is_start(self) -> bool
         ensures { result ≡ is_start self }
     {
         matches!(self, StateKind::RuleStart)
     }
 
+    /// Whether it is the kind of a rule's stop state.
     pub fn is_stop(self) -> bool
         ensures { result ≡ is_stop self }
     {
@@ -40,14 +37,13 @@ impl StateKind {
     }
 }
 
-// The kind with that number.
+/// The kind with that number. Denied with `BrokenRule` where no kind has it.
 impl TryFrom<i32> for StateKind {
     type Error = Denial;
 
     ghost try_from_gives = { KindNumbered };
 
     fn try_from(n: i32) -> Result<StateKind, Denial> {
-        // kept as a match: a number becomes a variant in no other way
         match n {
             1 => Ok(StateKind::Basic),
             2 => Ok(StateKind::RuleStart),
@@ -65,8 +61,8 @@ impl TryFrom<i32> for StateKind {
     }
 }
 
-// A state of rule number `rule`. Its edges are those numbered from first up to end, end excluded: kept as
-// numbers, since a net allocates nothing, so that the edges of all states lie in one vector.
+/// A state of rule number `rule`. Its edges are those numbered from `first` up to `end`, `end`
+/// excluded, among the edges of the net.
 #[derive(Clone, Copy, Default)]
 pub struct AtnState {
     pub rule: usize,

@@ -1,12 +1,18 @@
 #![tactic(auto)]
-// The graph of a net: tables as an owner writes them, kinds of states and edges, and the rules that tie them together.
-pub mod asking;
-pub mod atn_state;
-pub mod check;
-pub mod graph;
-pub mod limits;
-pub mod lists;
-pub mod read;
-pub mod rules;
-pub mod tables;
-pub mod transition;
+//! The graph of a net: the tables that an owner writes, what they write down, and the rules of a net
+//! but for left recursion.
+
+mod atn_state;
+mod graph;
+mod limits;
+mod lists;
+mod read;
+mod tables;
+mod transition;
+
+pub use atn_state::{AtnState, StateKind};
+pub use graph::Graph;
+pub use limits::{MAX_EDGES, MAX_INTERVALS, MAX_RULES, MAX_STATES};
+pub use lists::{Lists, Rule};
+pub use tables::{Counts, EdgeRow, RuleRow, StateRow, Tables};
+pub use transition::{Move, Transition, TransitionKind};

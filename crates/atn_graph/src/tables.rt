@@ -1,14 +1,14 @@
-// The tables of a net as an owner writes them: rows of plain numbers, nothing checked.
-use interval_set::interval::Interval;
+//! The tables of a net as an owner writes them: rows of plain numbers, nothing checked.
+use interval_set::Interval;
 
-// A rule: its start state and its stop state.
+/// A rule: its start state and its stop state.
 #[derive(Clone, Copy)]
 pub struct RuleRow {
     pub start: i32,
     pub stop: i32,
 }
 
-// A state: the rule it lies in, its kind's number, and how many edges it has.
+/// A state: the rule it lies in, its kind's number, and how many edges it has.
 #[derive(Clone, Copy)]
 pub struct StateRow {
     pub rule: i32,
@@ -16,7 +16,7 @@ pub struct StateRow {
     pub edges: i32,
 }
 
-// An edge: its kind's number, its target, and two columns whose meaning the kind gives.
+/// An edge: its kind's number, its target, and two columns whose meaning the kind gives.
 #[derive(Clone, Copy)]
 pub struct EdgeRow {
     pub kind: i32,
@@ -25,7 +25,8 @@ pub struct EdgeRow {
     pub b: i32,
 }
 
-// How many rows of each table count.
+/// How many rows of each table count: 1 to 64 rules, 2 to 512 states, at most 2,048 edges and 1,024
+/// intervals.
 #[derive(Clone, Copy)]
 pub struct Counts {
     pub rules: i32,
@@ -34,7 +35,8 @@ pub struct Counts {
     pub intervals: i32,
 }
 
-// The counts stand beside the tables, since an owner may supply fewer rows than a count says: such tables are denied.
+/// The tables of a net, with a largest token type of 1 to 255. A table may be longer than its count:
+/// the rows past the count are not looked at. One that is shorter is denied by the check.
 #[derive(Clone, Copy)]
 pub struct Tables<'a> {
     pub max_token_type: i32,

@@ -1,38 +1,40 @@
-// The kinds of edges, by the names and numbers of ANTLR's serialized networks.
-ghost use Rattle.std.specs.Prelude.{◌≡◌, pos};
-ghost use Rattle.atn_graph.specs.Kinds.{transition_number, move_of};
+//! Edges and their kinds.
+ghost use Rattle.std.specs.Prelude.{◌≡◌};
+ghost use Rattle.atn_graph.specs.Kinds.{move_of};
 
-use interval_set::interval::Interval;
+use interval_set::Interval;
 
+/// The kinds of edges, by the names of ANTLR's serialized networks.
 #[derive(Clone, Copy, Default)]
 pub enum TransitionKind {
     #[default]
     Epsilon,
-    // any type of the interval
+    /// takes any type of the interval
     Range(Interval),
-    // calls the rule, then goes on at the follow state
+    /// calls the rule, then goes on at the follow state
     Rule { rule: usize, follow: usize },
     Predicate,
-    // that type, or EOF (-1)
+    /// takes that type, or EOF (-1)
     Atom(i32),
     Action,
-    // any type of the count intervals from number first on, kept as numbers: a net allocates nothing
+    /// takes any type of the count intervals from number first on
     Set { first: usize, count: usize },
-    // any type from 1 to the largest but those
+    /// takes any type from 1 to the largest but those
     NotSet { first: usize, count: usize },
-    // any type from 1 to the largest
+    /// takes any type from 1 to the largest
     Wildcard,
     Precedence,
 }
 
+/// An edge to the state number `target`.
 #[derive(Clone, Copy, Default)]
 pub struct Transition {
     pub target: usize,
     pub kind: TransitionKind,
 }
 
-// What a walk does at an edge: it goes on to the target, it calls the target's rule and goes on
-// at the follow state later, or it ends with a token.
+/// What a walk does at an edge: it goes on to the target, it calls the target's rule and goes on at
+/// the follow state later, or it ends with a token.
 #[derive(Clone, Copy)]
 pub enum Move {
     Along,
@@ -41,24 +43,7 @@ pub enum Move {
 }
 
 impl TransitionKind {
-    // Kept as a match: where a variant has fields, none can be given its number.
-    pub fn number(self) -> i32
-        ensures { result ≡ pos (transition_number self) }
-    {
-        match self {
-            TransitionKind::Epsilon => 1,
-            TransitionKind::Range(_) => 2,
-            TransitionKind::Rule { .. } => 3,
-            TransitionKind::Predicate => 4,
-            TransitionKind::Atom(_) => 5,
-            TransitionKind::Action => 6,
-            TransitionKind::Set { .. } => 7,
-            TransitionKind::NotSet { .. } => 8,
-            TransitionKind::Wildcard => 9,
-            TransitionKind::Precedence => 10,
-        }
-    }
-
+    /// What a walk does at an edge of the kind.
     pub fn moves(self) -> Move
         ensures { result ≡ move_of self }
     {

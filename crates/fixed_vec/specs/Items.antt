@@ -1,7 +1,7 @@
--- What a vector of fixed room holds.
+-- The items of a vector.
 use Rattle.std.specs.Prelude.{ℕ, List, take}
 use Rattle.fixed_vec.specs.declared.fixed_vec.FixedVec.{FixedVec}
 
--- the items, in their order
+-- in their order
 abbrev pub items : {T : Type 0} {N : ℕ} → FixedVec T N → List T
 items v = take v.len v.places

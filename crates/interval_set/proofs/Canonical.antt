@@ -14,7 +14,7 @@ use Rattle.interval_set.proofs.Rising.{same_tests, between, inside_from, Fit, fi
 
 -- the first number of a list that is not empty
 first : (low : ℤ) (i : Interval) (is : List Interval) → rising_from low (i ∷ is) ≡ true → has (i ∷ is) i.a ≡ true
-first low i is e = let f = fit low i is e in or_left (inside i i.a) (has is i.a) (inside_from i i.a (omega (arith, ints)) f.some)
+first low i is e = let f = fit low i is e in or_left (inside i i.a) (has is i.a) (inside_from i i.a (omega (arith, ints)) f.non_empty)
 
 -- no number of the rest lies in the interval or next after it
 past : (low : ℤ) (i : Interval) (is : List Interval) (x : ℤ) → rising_from low (i ∷ is) ≡ true → has (i ∷ is) x ≡ true → (i.b <ℤ x) → (i.b +ℤ pos 2) ≤ℤ x
@@ -29,7 +29,7 @@ module _ (low down : ℤ) (i j : Interval) (is js : List Interval) (p : rising_f
   begins : j.a ≤ℤ i.a
   begins =
       let g = fit down j js q in
-      let h : Fit j.a j = record { from = omega (arith, ints); some = g.some; by = g.by } in
+      let h : Fit j.a j = record { from = omega (arith, ints); non_empty = g.non_empty; by = g.by } in
       bounded j.a (j ∷ js) i.a (risen j.a j js h (rest down j js q)) (into i.a (first low i is p))
 
   -- and if it begins there too, its first interval ends no later

@@ -61,7 +61,7 @@ total_is n low [] l s e = sym (none_pass n)
 total_is n low (i ∷ is) l s e =
     let f = fit low i is e in
     let r = rest low i is e in
-    let g : Fit smallest i = record { from = omega (arith, ints); some = f.some; by = f.by } in
+    let g : Fit smallest i = record { from = omega (arith, ints); non_empty = f.non_empty; by = f.by } in
     let t = total_is n (i.b +ℤ pos 2) is l (omega (arith, ints)) r in
     let u = inside_width n i l g in
     omega (arith, apart n (inside i) (has is) (λ x p q. let b = between i x p in let c = bounded (i.b +ℤ pos 2) is x r q in omega (arith, ints)))

@@ -58,7 +58,7 @@ or_join true t u = refl
 or_join false t u = refl
 
 pub both_fit : (low : ℤ) (i j : Interval) → Fit low i → Fit low j → Fit low (both i j)
-both_fit low i j f g = record { from = omega (arith, ints, clamps); some = omega (arith, ints, clamps); by = omega (arith, ints, clamps) }
+both_fit low i j f g = record { from = omega (arith, ints, clamps); non_empty = omega (arith, ints, clamps); by = omega (arith, ints, clamps) }
 
 -- the list then has its numbers and those of the interval
 pub merged_has : (low : ℤ) (i : Interval) (js : List Interval) (x : ℤ) → i.a ≤ℤ i.b → rising_from low js ≡ true → has (merged i js) x ≡ (inside i x || has js x)
@@ -68,8 +68,8 @@ merged_has low i (j ∷ js) x p e =
     let r = rest low j js e in
     by_way i j js (λ is. has is x ≡ (inside i x || (inside j x || has js x)))
     (λ l. ap (λ t. inside j x || t) (merged_has (j.b +ℤ pos 2) i js x p r) ∙ or_swap (inside j x) (inside i x) (has js x))
-    (λ l. ap (λ t. inside i x || t) (merged_has (j.b +ℤ pos 2) j js x f.some r))
-    (λ s t. merged_has (j.b +ℤ pos 2) (both i j) js x (omega (arith, ints, clamps)) r ∙ ap (λ u. u || has js x) (both_holds i j x p f.some s t) ∙ or_join (inside i x) (inside j x) (has js x))
+    (λ l. ap (λ t. inside i x || t) (merged_has (j.b +ℤ pos 2) j js x f.non_empty r))
+    (λ s t. merged_has (j.b +ℤ pos 2) (both i j) js x (omega (arith, ints, clamps)) r ∙ ap (λ u. u || has js x) (both_holds i j x p f.non_empty s t) ∙ or_join (inside i x) (inside j x) (has js x))
 
 -- and still rises
 pub merged_rises : (low : ℤ) (i : Interval) (js : List Interval) → Fit low i → rising_from low js ≡ true → rising_from low (merged i js) ≡ true
@@ -78,8 +78,8 @@ merged_rises low i (j ∷ js) f e =
     let g = fit low j js e in
     let r = rest low j js e in
     by_way i j js (λ is. rising_from low is ≡ true)
-    (λ l. risen low j (merged i js) g (merged_rises (j.b +ℤ pos 2) i js (record { from = omega (arith, ints); some = f.some; by = f.by }) r))
-    (λ l. risen low i (merged j js) f (merged_rises (i.b +ℤ pos 2) j js (record { from = omega (arith, ints); some = g.some; by = g.by }) (lower (j.b +ℤ pos 2) (i.b +ℤ pos 2) js (omega (arith, ints)) r)))
+    (λ l. risen low j (merged i js) g (merged_rises (j.b +ℤ pos 2) i js (record { from = omega (arith, ints); non_empty = f.non_empty; by = f.by }) r))
+    (λ l. risen low i (merged j js) f (merged_rises (i.b +ℤ pos 2) j js (record { from = omega (arith, ints); non_empty = g.non_empty; by = g.by }) (lower (j.b +ℤ pos 2) (i.b +ℤ pos 2) js (omega (arith, ints)) r)))
     (λ s t. merged_rises low (both i j) js (both_fit low i j f g) (lower (j.b +ℤ pos 2) low js (omega (arith, ints)) r))
 
 -- The loop over the whole list: out is written, and i is to be put into the intervals from k on.
@@ -121,4 +121,4 @@ or_turn false false = refl
 
 -- what comes out has the numbers of the set and those of the interval
 pub merged_holds : (added : Interval) (whole : List Interval) (is : List Interval) → rising whole ≡ true → rising (added ∷ []) ≡ true → is ≡ merged added whole → (x : ℤ) → has is x ≡ (has whole x || inside added x)
-merged_holds added whole is rises p e x = ap (λ js. has js x) e ∙ merged_has smallest added whole x (fit smallest added [] p).some rises ∙ or_turn (inside added x) (has whole x)
+merged_holds added whole is rises p e x = ap (λ js. has js x) e ∙ merged_has smallest added whole x (fit smallest added [] p).non_empty rises ∙ or_turn (inside added x) (has whole x)

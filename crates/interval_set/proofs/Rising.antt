@@ -30,7 +30,7 @@ not_inside i x never = elim (cases_Bool (inside i x)) [ inl t ↦ absurd (never 
 -- an interval that is not empty and lies within the numbers from low to the largest
 pub record Fit (low : ℤ) (i : Interval) : Type 0 where
   pub from : low ≤ℤ i.a
-  pub some : i.a ≤ℤ i.b
+  pub non_empty : i.a ≤ℤ i.b
   pub by : i.b ≤ℤ largest
 
 pub fit : (low : ℤ) (i : Interval) (is : List Interval) → rising_from low (i ∷ is) ≡ true → Fit low i
@@ -38,7 +38,7 @@ fit low i is e =
     let p = and_parts (le_z low i.a) _ e in
     let q = and_parts (le_z i.a i.b) _ p.1 in
     let r = and_parts (le_z i.b largest) _ q.1 in
-    record { from = omega (arith, ints, p.0); some = omega (arith, ints, q.0); by = omega (arith, ints, r.0) }
+    record { from = omega (arith, ints, p.0); non_empty = omega (arith, ints, q.0); by = omega (arith, ints, r.0) }
 
 pub rest : (low : ℤ) (i : Interval) (is : List Interval) → rising_from low (i ∷ is) ≡ true → rising_from (i.b +ℤ pos 2) is ≡ true
 rest low i is e = (and_parts (le_z i.b largest) _ (and_parts (le_z i.a i.b) _ (and_parts (le_z low i.a) _ e).1).1).1
@@ -51,7 +51,7 @@ risen low i is f r =
 -- what rises from low rises from anything lower
 pub lower : (low down : ℤ) (is : List Interval) → down ≤ℤ low → rising_from low is ≡ true → rising_from down is ≡ true
 lower low down [] l e = refl
-lower low down (i ∷ is) l e = let f = fit low i is e in risen down i is (record { from = omega (arith, ints); some = f.some; by = f.by }) (rest low i is e)
+lower low down (i ∷ is) l e = let f = fit low i is e in risen down i is (record { from = omega (arith, ints); non_empty = f.non_empty; by = f.by }) (rest low i is e)
 
 -- the first part of a rising list rises
 pub front : (low : ℤ) (is js : List Interval) → rising_from low (is ++ js) ≡ true → rising_from low is ≡ true
@@ -82,7 +82,7 @@ taken low (i ∷ is) l e =
 -- each interval of a rising list lies within -2..255
 pub fit_at : (low : ℤ) (is : List Interval) (k : ℕ) (d : Interval) → smallest ≤ℤ low → k < length is → rising_from low is ≡ true → Fit smallest (get_or is k d)
 fit_at low [] k d s l e = absurd (omega arith)
-fit_at low (i ∷ is) zero d s l e = let f = fit low i is e in record { from = omega (arith, ints); some = f.some; by = f.by }
+fit_at low (i ∷ is) zero d s l e = let f = fit low i is e in record { from = omega (arith, ints); non_empty = f.non_empty; by = f.by }
 fit_at low (i ∷ is) (suc k) d s l e = let f = fit low i is e in fit_at (i.b +ℤ pos 2) is k d (omega (arith, ints)) (omega arith) (rest low i is e)
 
 -- The intervals of a list, one by one.
@@ -101,7 +101,7 @@ pub place_fits : (is : List Interval) (k : ℕ) → k < length is → rising is 
 place_fits is k l r = fit_at smallest is k no_interval (omega (arith, ints)) l r
 
 -- a rising list leaves room for one interval more
-pub room : (is : List Interval) (i : Interval) → rising (is ++ i ∷ []) ≡ true → length is < 130
+pub room : (is : List Interval) (i : Interval) → rising (is ++ i ∷ []) ≡ true → length is < 129
 room is i r =
     let t = taken smallest (is ++ i ∷ []) (omega (arith, ints)) r in
     let n = length_push is i in
@@ -111,7 +111,7 @@ room is i r =
 pub least : (i : Interval) (is : List Interval) → rising (i ∷ is) ≡ true → (has (i ∷ is) i.a ≡ true) × ((x : ℤ) → has (i ∷ is) x ≡ true → i.a ≤ℤ x)
 least i is r =
     let f = fit smallest i is r in
-    let g : Fit i.a i = record { from = omega (arith, ints); some = f.some; by = f.by } in (
+    let g : Fit i.a i = record { from = omega (arith, ints); non_empty = f.non_empty; by = f.by } in (
       or_left (inside i i.a) _ (inside_from i i.a (omega (arith, ints)) (omega (arith, ints))),
       λ x h. bounded i.a (i ∷ is) x (risen i.a i is g (rest smallest i is r)) h,
     )

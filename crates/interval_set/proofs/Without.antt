@@ -84,7 +84,7 @@ above_rises : (low : ℤ) (r i : Interval) (is : List Interval) → low ≤ℤ i
 above_rises low r i is p q s t e = at (lt_z r.b i.b) refl
   where
     at : (t : Bool) → lt_z r.b i.b ≡ t → rising_from low (cond t (over r i ∷ is) is) ≡ true
-    at true h = risen low (over r i) is (record { from = p; some = omega (arith, ints, clamps); by = t }) e
+    at true h = risen low (over r i) is (record { from = p; non_empty = omega (arith, ints, clamps); by = t }) e
     at false h = lower (i.b +ℤ pos 2) low is q e
 
 -- and still rises, if r is not empty
@@ -94,9 +94,9 @@ without_rises low r (i ∷ is) p e = at (lt_z i.a r.a) refl (fit low i is e) (wi
   where
     at : (t : Bool) → lt_z i.a r.a ≡ t → Fit low i → rising_from (i.b +ℤ pos 2) (without r is) ≡ true → rising_from low (cond t (under r i ∷ above r i (without r is)) (above r i (without r is))) ≡ true
     at true h f g =
-        risen low (under r i) _ (record { from = f.from; some = omega (arith, ints, clamps); by = omega (arith, ints, clamps) })
-        (above_rises ((under r i).b +ℤ pos 2) r i (without r is) (omega (arith, ints, clamps)) (omega (arith, ints, clamps)) f.some f.by g)
-    at false h f g = above_rises low r i (without r is) (omega (arith, ints, clamps)) (omega (arith, ints)) f.some f.by g
+        risen low (under r i) _ (record { from = f.from; non_empty = omega (arith, ints, clamps); by = omega (arith, ints, clamps) })
+        (above_rises ((under r i).b +ℤ pos 2) r i (without r is) (omega (arith, ints, clamps)) (omega (arith, ints, clamps)) f.non_empty f.by g)
+    at false h f g = above_rises low r i (without r is) (omega (arith, ints, clamps)) (omega (arith, ints)) f.non_empty f.by g
 
 pub is_under : (r i j : Interval) → j.a ≡ i.a → j.b ≡ int_min i.b (r.a -ℤ pos 1) → j ≡ under r i
 is_under r i j e f = ap (λ x. from_to x j.b) e ∙ ap (from_to i.a) f

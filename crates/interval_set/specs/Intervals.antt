@@ -1,5 +1,5 @@
--- Which numbers an interval holds, and when a list of intervals is one way, and the only way, to write a set.
-use Rattle.std.specs.Prelude.{Bool, true, ◌&&◌, ◌||◌, List, [], ◌∷◌, ℤ, pos, negsuc, ◌+ℤ◌, int_le, int_lt}
+-- Which numbers an interval holds, and when a list of intervals is the one way to write a set.
+use Rattle.std.specs.Prelude.{ℕ, Bool, true, ◌&&◌, ◌||◌, List, [], ◌∷◌, ℤ, pos, negsuc, ◌+ℤ◌, int_le, int_lt}
 use Rattle.std.specs.List.{list_any}
 use Rattle.interval_set.specs.declared.interval.Interval.{Interval}
 
@@ -22,14 +22,20 @@ smallest = negsuc 1
 abbrev pub largest : ℤ
 largest = pos 255
 
+-- how many numbers there are from the one to the other
+abbrev pub numbers : ℕ
+numbers = 258
+
 -- an interval that may be added: an empty one, or one that lies within -2..255
 abbrev pub addable : Interval → Bool
 addable i = int_lt i.b i.a || (int_le smallest i.a && int_le i.b largest)
 
--- Each interval begins at low or later, is not empty and ends by 255; the next begins past the number after its end.
+-- Each interval begins at low or later, is not empty and ends by the largest number;
+-- the next begins past the number after its end.
 abbrev pub rising_from : ℤ → List Interval → Bool
 rising_from low [] = true
-rising_from low (i ∷ is) = int_le low i.a && (int_le i.a i.b && (int_le i.b largest && rising_from (i.b +ℤ pos 2) is))
+rising_from low (i ∷ is) =
+    int_le low i.a && (int_le i.a i.b && (int_le i.b largest && rising_from (i.b +ℤ pos 2) is))
 
 abbrev pub rising : List Interval → Bool
 rising is = rising_from smallest is

@@ -26,14 +26,17 @@ abbrev pub how_many : ℕ → (ℤ → Bool) → ℕ
 how_many zero p = 0
 how_many (suc n) p = how_many n p + cond (p (smallest +ℤ pos n)) 1 0
 
--- The interval's numbers are added; one that holds a number outside -2..255 is denied, and then nothing changes.
+-- The interval's numbers are added; one with a number outside -2..255 is denied, and then nothing
+-- changes.
 abbrev pub Added : IntervalSet → Interval → Result (Unit {0}) Denial → IntervalSet → Type 0
-Added before i (Ok u) after = (addable i ≡ true) × ((x : ℤ) → holds after x ≡ (holds before x || inside i x))
+Added before i (Ok u) after =
+    (addable i ≡ true) × ((x : ℤ) → holds after x ≡ (holds before x || inside i x))
 Added before i (Err d) after = (addable i ≡ false) × (d ≡ SetValue) × (after ≡ before)
 
 -- The numbers of the interval that the set does not hold.
 abbrev pub Complement : IntervalSet → Interval → Result IntervalSet Denial → Type 0
-Complement s i (Ok out) = (addable i ≡ true) × ((x : ℤ) → holds out x ≡ (inside i x && not (holds s x)))
+Complement s i (Ok out) =
+    (addable i ≡ true) × ((x : ℤ) → holds out x ≡ (inside i x && not (holds s x)))
 Complement s i (Err d) = (addable i ≡ false) × (d ≡ SetValue)
 
 -- The smallest number of the set, if it holds any.
@@ -56,7 +59,8 @@ same_ends_laws = and_per (on_per (λ i. i.a) ints) (on_per (λ i. i.b) ints)
     ints : IsPartialEquivalence int_eq
     ints = partial_equiv_from_equiv int_eq_equiv
 
--- What a comparison answers: whether the sets hold the same numbers, which is whether they have the same intervals.
+-- What a comparison answers: whether the sets hold the same numbers, which is whether they have the
+-- same intervals.
 pub record Equal (s t : IntervalSet) (r : Bool) : Type 0 where
   pub members : Decides r (Same s t)
   pub lists : Decides r (intervals s ≡ intervals t)

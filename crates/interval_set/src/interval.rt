@@ -1,8 +1,15 @@
+//! Intervals of numbers.
 ghost use Rattle.std.specs.Prelude.{◌≡◌, pos, ◌+ℤ◌, ◌-ℤ◌, ◌<ℤ◌};
 ghost use Rattle.std.specs.Int.{int_min, int_max};
 ghost use Rattle.interval_set.specs.Intervals.{inside};
 
-// The numbers from a to b, both included. One with b below a is empty.
+/// What a set holds in place of a token type where a walk can end with no token.
+pub const EPSILON: i32 = -2;
+
+/// The largest token type.
+pub const MAX_TYPE: i32 = 255;
+
+/// The numbers from a to b, both included, none where b is below a.
 #[derive(Clone, Copy, PartialEq, Eq, Default, Debug)]
 pub struct Interval {
     pub a: i32,
@@ -10,7 +17,7 @@ pub struct Interval {
 }
 
 impl Interval {
-    // The smallest interval that holds both.
+    /// The smallest interval that holds both.
     pub fn union(self, another: Interval) -> Interval
         ensures low { result.a ≡ int_min self.a another.a }
         ensures high { result.b ≡ int_max self.b another.b }
@@ -21,14 +28,14 @@ impl Interval {
         }
     }
 
-    // Whether x is one of its numbers.
+    /// Whether x is one of its numbers.
     pub(crate) fn contains(self, x: i32) -> bool
         ensures { result ≡ inside self x }
     {
         self.a <= x && x <= self.b
     }
 
-    // What lies below the other, of an interval that begins below it.
+    /// What lies below the other, of an interval that begins below it.
     pub(crate) fn below(self, other: Interval) -> Interval
         requires { self.a <ℤ other.a }
         ensures low { result.a ≡ self.a }
@@ -40,7 +47,7 @@ impl Interval {
         }
     }
 
-    // What lies above the other, of an interval that ends above it.
+    /// What lies above the other, of an interval that ends above it.
     pub(crate) fn above(self, other: Interval) -> Interval
         requires { other.b <ℤ self.b }
         ensures low { result.a ≡ int_max self.a (other.b +ℤ pos 1) }

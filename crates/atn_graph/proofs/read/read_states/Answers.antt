@@ -16,7 +16,7 @@ loop-row-preserved c =
     let inv = c.loop-row.invariant in
     let x = c.in_ok-state.state in
     let e = c.in_ok-state.ensures in
-    let pushed = sym (c.push.ensures.room (omega (arith, inv.0, c.requires.few))).1 in
+    let pushed = sym (c.push.ensures.room (omega (arith, inv.0, c.requires.bounded))).1 in
     let more = state_more rows (items c.loop-row.states) k x inv.0 inv.3 (subst (λ b. WritesState (get_or rows k no_state_row) b x) inv.1 e.0) in (
       ap length (sym pushed) ∙ length_push _ _ ∙ ap (λ n. n + 1) inv.0,
       subst (λ ss. x.end ≡ end_before ss (k + 1)) pushed (end_at_last (items c.loop-row.states) k x inv.0),
