@@ -7,4 +7,3 @@ pub mod event;
 pub mod law;
 pub mod strategy_state;
 pub mod open_rule;
-pub mod token_fields;
