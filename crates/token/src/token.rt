@@ -38,8 +38,8 @@ pub trait Token {
 pub trait TokenFactory {
     type Tok: Token + Drop;
 
-    /// The token that says this of itself; of the span it keeps what its kind keeps. With no index the
-    /// token is made up.
+    /// The token that says this of itself; of the span it keeps what its kind keeps. With no index
+    /// the token is made up.
     fn create(
         &self,
         token_type: TokenType,

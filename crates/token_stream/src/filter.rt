@@ -10,15 +10,16 @@ use crate::stream::{IntStream, TokenStream};
 use std::marker::PhantomData;
 use token::{Token, TokenType};
 
-// How far a filter has looked: token number `ahead` below, counted from 1, is number `count` of those that it shows.
+// How far a filter has looked: token number `ahead` below, counted from 1, is number `count` of
+// those that it shows.
 #[derive(Clone, Copy)]
 struct Cursor {
     count: usize,
     ahead: u16,
 }
 
-/// Shows EOF and the tokens of channel 0 of the stream below. Looking ahead one by one goes over each token
-/// below once.
+/// Shows EOF and the tokens of channel 0 of the stream below. Looking ahead one by one goes over
+/// each token below once.
 #[derive(Drop)]
 pub struct Filter<'a, S: IntStream> {
     below: S,
@@ -44,7 +45,8 @@ impl<'a, S: TokenStream<'a>> Filter<'a, S> {
     // Which token below, counted from 1, is the k-th that is shown; EOF if there are fewer.
     fn seek(&mut self, k: i32) -> i32
         ensures keeps { KeepsShown S.tape S.shown self.old.below self.new.below }
-        ensures found { let ts = S.shown self.old.below in shown_at ts result ≡ shown_at (filtered ts) k }
+        ensures found { let ts = S.shown self.old.below in
+            shown_at ts result ≡ shown_at (filtered ts) k }
         ensures keeps_cursor { IsSomeAnd self.new.cursor (λ s. result ≡ pos s.ahead) }
     {
         let k = at_least_one(k);

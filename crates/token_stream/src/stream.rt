@@ -5,8 +5,8 @@ ghost use Rattle.token_stream.specs.Streams.{Shows, KeepsShown, Outside, shown_a
 
 use token::{Token, TokenFactory, TokenType};
 
-/// A stream shows some of the tokens of its tape, from its place on. A question alters nothing that is
-/// shown; it takes `&mut self` so that a stream may keep how far it has looked.
+/// A stream shows some of the tokens of its tape, from its place on. A question alters nothing that
+/// is shown; it takes `&mut self` so that a stream may keep how far it has looked.
 pub trait IntStream {
     ghost tape: { Self → List Fields };
 
@@ -14,7 +14,7 @@ pub trait IntStream {
 
     ghost lawful: { (s : Self) → Shows (tape s) (shown s) };
 
-    /// The type of the k-th token ahead, counted from 1; below 1 it is the first's, and past the end EOF.
+    /// The type of the k-th token ahead, counted from 1: below 1 the first's, past the end EOF.
     fn la(&mut self, k: i32) -> TokenType
         ensures keeps { KeepsShown tape shown self.old self.new }
         ensures type_ahead { result ≡ (shown_at (shown self.old) k).typ };
@@ -38,7 +38,7 @@ pub trait TokenStream<'a>: IntStream {
 
     ghost own_factory: { Self → Self.Factory };
 
-    /// The k-th token ahead, counted from 1; below 1 it is the first, and past the end EOF.
+    /// The k-th token ahead, counted from 1: below 1 the first, past the end EOF.
     fn lt(&mut self, k: i32) -> &'a Self::Tok
         ensures keeps { KeepsShown Self.tape Self.shown self.old self.new }
         ensures token_ahead { Self.Tok.fields result.now ≡ shown_at (Self.shown self.old) k };
@@ -46,7 +46,8 @@ pub trait TokenStream<'a>: IntStream {
     /// The token at a place of the tape; outside it EOF.
     fn get(&self, i: i32) -> &'a Self::Tok
         ensures token { Self.Tok.fields result.now ≡ tape_at (Self.tape self.now) i }
-        ensures eof_outside { Outside i (Self.tape self.now) → is_eof (Self.Tok.fields result.now).typ ≡ true };
+        ensures eof_outside { Outside i (Self.tape self.now) →
+            is_eof (Self.Tok.fields result.now).typ ≡ true };
 
     /// What makes tokens of the stream's kind.
     fn factory(&self) -> &Self::Factory

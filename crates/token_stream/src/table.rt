@@ -42,7 +42,8 @@ impl<'a, T: Token, F: Drop> TokenTable<'a, T, F> {
 impl<'a, T: Token, F> TokenTable<'a, T, F> {
     // The k-th token ahead, counted from 1.
     fn ahead(&self, k: i32) -> &'a T
-        ensures { T.fields result.now ≡ shown_at (drop self.now.place (map T.fields self.now.tokens.now)) k }
+        ensures { let tape = map T.fields self.now.tokens.now in
+            T.fields result.now ≡ shown_at (drop self.now.place tape) k }
     {
         let left = &self.tokens[self.place..];
         let steps = usize::try_from(k).unwrap_or(0).saturating_sub(1);
