@@ -4,13 +4,13 @@ use Rattle.std.specs.List.{flat_map}
 use Rattle.std.proofs.lemmas.Bool.{cases_lt, false≢true}
 use Rattle.std.proofs.lemmas.List.{length-append, length_push, get_or_push, append-nil, drop_at}
 use Rattle.std.proofs.lemmas.Grind.{flat_map-append}
-use Rattle.records.specs.declared.leaf_writer.LeafWriter.{LeafWriter}
+use Rattle.leaves.specs.declared.leaf_writer.LeafWriter.{LeafWriter}
 use Rattle.errors.specs.declared.denial.Denial.{Denial}
 use Rattle.errors.specs.declared.denial.Denial.TheVariants.{NoLeafFree}
-use Rattle.records.specs.Leaves.{LeafFields, LeafFits}
-use Rattle.records.specs.LeafLines.{leaf_line}
-use Rattle.records.specs.Lengths.{length_line}
-use Rattle.records.specs.Writers.{leaves_written}
+use Rattle.leaves.specs.Leaves.{LeafFields, LeafFits}
+use Rattle.leaves.specs.LeafLines.{leaf_line}
+use Rattle.leaves.specs.Lengths.{length_line}
+use Rattle.leaves.specs.Writers.{leaves_written}
 
 leaves_fit : (w : LeafWriter) → All LeafFits (leaves_written w)
 unfolding leaves_written

@@ -2,9 +2,9 @@
 use Rattle.std.specs.Prelude.{◌≡◌, ◌<◌, ℕ, length, Ok, Err, Result}
 use Rattle.errors.specs.declared.denial.Denial.{Denial}
 use Rattle.errors.specs.declared.denial.Denial.TheVariants.{NoLeafFree}
-use Rattle.records.specs.Leaves.{LeafFields}
-use Rattle.records.specs.LeafLines.{leaf_line}
-use Rattle.records.specs.Lists.{behind}
+use Rattle.leaves.specs.Leaves.{LeafFields}
+use Rattle.leaves.specs.LeafLines.{leaf_line}
+use Rattle.fixed_vec.specs.Lists.{behind}
 use Rattle.answers.specs.declared.leaf_lists.LeafLists.{LeafLists}
 use Rattle.answers.specs.declared.leaves.AddedLeaf.{AddedLeaf}
 

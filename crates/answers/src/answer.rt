@@ -13,7 +13,7 @@ use crate::tape::answer_tape;
 use atn::atn::Atn;
 use errors::denial::Denial;
 use interval_set::set::IntervalSet;
-use records::counter::Counter;
+use reports::Counter;
 use script::answer::Answer;
 use script::question::Question;
 use script::script::Script;

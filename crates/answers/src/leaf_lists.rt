@@ -1,10 +1,10 @@
 // The two leaf lists of a script.
 ghost use Rattle.std.specs.Prelude.{◌≡◌, ◌/◌, length};
-ghost use Rattle.records.specs.Lists.{behind};
-ghost use Rattle.records.specs.Writers.{unwritten};
+ghost use Rattle.fixed_vec.specs.Lists.{behind};
+ghost use Rattle.leaves.specs.Writers.{unwritten};
 
-use records::leaf_table::LeafTable;
-use records::leaf_writer::LeafWriter;
+use leaves::LeafTable;
+use leaves::LeafWriter;
 
 // A table of leaves and a writer of their lines, with room for equally many.
 #[derive(Drop)]

@@ -1,15 +1,15 @@
 // Adding a leaf to both lists.
 ghost use Rattle.std.specs.Prelude.{◌≡◌, ◌-◌, ◌/◌, IfOk, OnOk, length, min};
-ghost use Rattle.records.specs.Lists.{behind};
-ghost use Rattle.records.specs.Writers.{unwritten};
+ghost use Rattle.fixed_vec.specs.Lists.{behind};
+ghost use Rattle.leaves.specs.Writers.{unwritten};
 ghost use Rattle.answers.specs.Leaves.{LeafAnswer, room};
 
 use crate::leaf_lists::LeafLists;
 use errors::denial::Denial;
-use records::leaf::{Leaf, LeafKind};
-use records::leaf_list::LeafList;
-use records::leaf_table::LeafTable;
-use records::leaf_writer::LeafWriter;
+use leaves::{Leaf, LeafKind};
+use leaves::LeafList;
+use leaves::LeafTable;
+use leaves::LeafWriter;
 use std::alloc::{AllocError, Global};
 use token::token_type::TokenType;
 

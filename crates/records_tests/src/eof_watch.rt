@@ -2,9 +2,9 @@
 ghost use Rattle.std.specs.Prelude.{◌≡◌, Bool, false, ◌||◌, negsuc};
 
 use interval_set::set::IntervalSet;
-use records::counter::Counter;
-use records::listener::Listener;
-use records::report::Report;
+use reports::Counter;
+use reports::Listener;
+use reports::Report;
 
 // Keeps whether EOF was expected at any fault so far.
 #[derive(Clone, Copy)]

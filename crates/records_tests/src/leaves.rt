@@ -1,5 +1,5 @@
 // The limits of a leaf.
-use records::leaf::{Leaf, LeafKind};
+use leaves::{Leaf, LeafKind};
 use std::test::*;
 use token::token_type::TokenType;
 

@@ -1,9 +1,9 @@
 // The text that a writer of leaves writes.
 use crate::owners::add_two;
 use errors::denial::Denial;
-use records::leaf::{Leaf, LeafKind};
-use records::leaf_list::LeafList;
-use records::leaf_writer::LeafWriter;
+use leaves::{Leaf, LeafKind};
+use leaves::LeafList;
+use leaves::LeafWriter;
 use std::test::*;
 use token::token_type::TokenType;
 

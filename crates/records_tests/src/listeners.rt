@@ -2,10 +2,10 @@
 use crate::made::report;
 use crate::owners::eof_at_either;
 use interval_set::set::IntervalSet;
-use records::counter::Counter;
-use records::listener::notify_error_listeners;
-use records::recorder::Recorder;
-use records::report::{Report, ReportKind};
+use reports::Counter;
+use reports::notify_error_listeners;
+use reports::Recorder;
+use reports::{Report, ReportKind};
 use std::test::*;
 
 #[test]

@@ -1,7 +1,7 @@
 // Leaves and reports that the tests use.
 use interval_set::set::IntervalSet;
-use records::leaf::{Leaf, LeafKind};
-use records::report::{Report, ReportKind};
+use leaves::{Leaf, LeafKind};
+use reports::{Report, ReportKind};
 use std::test::*;
 use token::token_type::TokenType;
 

@@ -1,21 +1,21 @@
 // What the owner of a lent table knows once code that is generic has written to it.
 ghost use Rattle.std.specs.Prelude.{◌≡◌, ◌<◌, ◌≤◌, [], ◌∷◌, ◌++◌, drop, length, None, ◌||◌, negsuc};
-ghost use Rattle.records.specs.Adding.{Grown};
-ghost use Rattle.records.specs.LeafLines.{leaf_line};
-ghost use Rattle.records.specs.Heard.{Told, Hears, told_at};
-ghost use Rattle.records.specs.Reports.{expects};
+ghost use Rattle.leaves.specs.Adding.{Grown};
+ghost use Rattle.leaves.specs.LeafLines.{leaf_line};
+ghost use Rattle.reports.specs.Heard.{Told, Hears, told_at};
+ghost use Rattle.reports.specs.Reports.{expects};
 
 use crate::eof_watch::EofWatch;
 use interval_set::set::IntervalSet;
-use records::bounded_list::BoundedList;
-use records::counter::Counter;
-use records::leaf::Leaf;
-use records::leaf_list::LeafList;
-use records::leaf_table::LeafTable;
-use records::leaf_writer::LeafWriter;
-use records::listener::{Listener, notify_error_listeners};
-use records::recorder::Recorder;
-use records::report::{Report, ReportKind};
+use fixed_vec::BoundedList;
+use reports::Counter;
+use leaves::Leaf;
+use leaves::LeafList;
+use leaves::LeafTable;
+use leaves::LeafWriter;
+use reports::{Listener, notify_error_listeners};
+use reports::Recorder;
+use reports::{Report, ReportKind};
 
 pub(crate) fn add_two<L: LeafList>(l: &mut L, a: Leaf, b: Leaf)
     ensures same_memory { L.lent l.new ≡ L.lent l.old }

@@ -1,6 +1,6 @@
 // What a report says of the types that were expected.
 use interval_set::set::IntervalSet;
-use records::report::{Report, ReportKind};
+use reports::{Report, ReportKind};
 use std::test::*;
 use token::token_type::TokenType;
 

@@ -3,12 +3,12 @@ use crate::made::{leaf, report};
 use crate::owners::{add_two, report_two};
 use errors::denial::Denial;
 use interval_set::set::IntervalSet;
-use records::bounded_list::BoundedList;
-use records::counter::Counter;
-use records::leaf_list::LeafList;
-use records::leaf_table::LeafTable;
-use records::listener::Listener;
-use records::recorder::Recorder;
+use fixed_vec::BoundedList;
+use reports::Counter;
+use leaves::LeafList;
+use leaves::LeafTable;
+use reports::Listener;
+use reports::Recorder;
 use std::test::*;
 
 #[test]

@@ -4,8 +4,8 @@ use Rattle.std.proofs.lemmas.Bool.{cond_both, cond-true, cond-false}
 use Rattle.std.proofs.lemmas.Option.{none-some}
 use Rattle.errors.specs.declared.denial.Denial.{Denial}
 use Rattle.atn_graph.specs.Net.{Net}
-use Rattle.records.specs.declared.report.ReportKind.TheVariants.{NoViableAlternative, FailedPredicate}
-use Rattle.records.specs.Heard.{Told}
+use Rattle.reports.specs.declared.report.ReportKind.TheVariants.{NoViableAlternative, FailedPredicate}
+use Rattle.reports.specs.Heard.{Told}
 use Rattle.recovery_model.specs.declared.call.Call.{Call}
 use Rattle.recovery_model.specs.declared.open_rule.OpenRule.{OpenRule}
 use Rattle.recovery_model.specs.Calls.{InputMismatch, Denied, Done, Left, Token}

@@ -10,8 +10,8 @@ use Rattle.atn_graph.specs.Net.{Net, size, rule_at, state_at, edges_of}
 use Rattle.atn_graph.proofs.Soundness.{sound_of}
 use Rattle.atn.specs.declared.atn.Atn.{Atn}
 use Rattle.atn.specs.Checked.{net_of}
-use Rattle.records.specs.declared.leaf.LeafKind.{LeafKind}
-use Rattle.records.specs.declared.leaf.LeafKind.TheVariants.{Error}
+use Rattle.leaves.specs.declared.leaf.LeafKind.{LeafKind}
+use Rattle.leaves.specs.declared.leaf.LeafKind.TheVariants.{Error}
 use Rattle.token.specs.Tokens.{Fields, token_index}
 use Rattle.token_stream.specs.Tapes.{no_token, token_at}
 use Rattle.token_stream.specs.Streams.{Named, Shows}

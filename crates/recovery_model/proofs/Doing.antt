@@ -2,7 +2,7 @@
 use Rattle.std.proofs.Common.{◌≡◌, ℕ, Bool, true, false, not, ◌&&◌, ◌||◌, ◌==◌, ◌⊎◌, List, ◌∷◌, ℤ, Option, Some, sym, refl, ap, ◌∙◌, inl, inr}
 use Rattle.std.proofs.lemmas.Bool.{cond_both, both_ways, cases_Bool, and_right, eq-eqb}
 use Rattle.atn_graph.specs.Net.{Net}
-use Rattle.records.specs.declared.leaf.LeafKind.TheVariants.{Error}
+use Rattle.leaves.specs.declared.leaf.LeafKind.TheVariants.{Error}
 use Rattle.token.specs.Tokens.{Fields, type_number, is_eof, token_index}
 use Rattle.token_stream.specs.Tapes.{token_at, EndsInEof}
 use Rattle.token_stream.specs.Streams.{passed}

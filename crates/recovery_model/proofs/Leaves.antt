@@ -4,9 +4,9 @@ use Rattle.std.proofs.lemmas.Bool.{cond_both, cond-true, cond-false, cases_Bool,
 use Rattle.std.proofs.lemmas.List.{append-nil, map-append, length-append, get_or-append-add}
 use Rattle.std.proofs.lemmas.List.Elements.{filter-append}
 use Rattle.atn_graph.specs.Net.{Net}
-use Rattle.records.specs.declared.leaf.LeafKind.{LeafKind}
-use Rattle.records.specs.declared.leaf.LeafKind.TheVariants.{Error}
-use Rattle.records.specs.Leaves.{LeafFields as Leaf}
+use Rattle.leaves.specs.declared.leaf.LeafKind.{LeafKind}
+use Rattle.leaves.specs.declared.leaf.LeafKind.TheVariants.{Error}
+use Rattle.leaves.specs.Leaves.{LeafFields as Leaf}
 use Rattle.token.specs.Tokens.{Fields, is_eof, token_index}
 use Rattle.token_stream.specs.Tapes.{no_token, token_at}
 use Rattle.token_stream.specs.Streams.{passed}

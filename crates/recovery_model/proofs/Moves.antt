@@ -2,7 +2,7 @@
 use Rattle.std.proofs.Common.{◌≡◌, ℕ, zero, suc, List, [], ◌∷◌, map, None, refl, ap, ◌∙◌}
 use Rattle.token_stream.specs.Tapes.{EndsInEof}
 use Rattle.token.specs.Tokens.{Fields}
-use Rattle.records.specs.declared.leaf.LeafKind.{LeafKind}
+use Rattle.leaves.specs.declared.leaf.LeafKind.{LeafKind}
 use Rattle.recovery_model.specs.declared.open_rule.OpenRule.{OpenRule}
 use Rattle.recovery_model.specs.Views.{View, no_error_states}
 use Rattle.recovery_model.specs.Passing.{Reason, raised, add, pass, pass_many, begin_error_condition, end_error_condition}

@@ -1,7 +1,7 @@
 -- Runs of calls, and the journal of one.
 use Rattle.std.specs.Prelude.{ℕ, List, [], ◌∷◌, ◌++◌}
 use Rattle.atn_graph.specs.Net.{Net}
-use Rattle.records.specs.Heard.{Told}
+use Rattle.reports.specs.Heard.{Told}
 use Rattle.recovery_model.specs.declared.call.Call.{Call}
 use Rattle.recovery_model.specs.declared.event.Event.{Event as EventRecord}
 use Rattle.recovery_model.specs.Calls.{Answer, answer_of}

@@ -2,7 +2,7 @@
 use Rattle.std.specs.Prelude.{◌≡◌, ℕ, ◌+◌, ◌<◌, ◌≤◌, ◌⊎◌, Bool, true, false, not, ◌&&◌, ◌==◌, List, [], ◌∷◌, ◌++◌, length, map, filter, count_by, reverse, Option, Some, None}
 use Rattle.atn_graph.specs.Net.{Net, size}
 use Rattle.ll1_analyzer.specs.Sets.{Recovery}
-use Rattle.records.specs.Leaves.{LeafFields as Leaf}
+use Rattle.leaves.specs.Leaves.{LeafFields as Leaf}
 use Rattle.token.specs.declared.token_type.TokenType.{TokenType}
 use Rattle.token.specs.Tokens.{Fields, type_number, token_index, is_eof}
 use Rattle.token_stream.specs.Tapes.{token_at}

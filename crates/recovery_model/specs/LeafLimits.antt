@@ -3,8 +3,8 @@ use Rattle.std.specs.Prelude.{ℕ, ◌<◌, ◌≤◌, List, length, pos, ◌≤
 use Rattle.token.specs.declared.token_type.TokenType.{TokenType}
 use Rattle.token.specs.Tokens.{Fields, type_number}
 use Rattle.token_stream.specs.Tapes.{token_at}
-use Rattle.records.specs.declared.leaf.LeafKind.{LeafKind}
-use Rattle.records.specs.Leaves.{LeafFields, LeafFits}
+use Rattle.leaves.specs.declared.leaf.LeafKind.{LeafKind}
+use Rattle.leaves.specs.Leaves.{LeafFields, LeafFits}
 
 -- the leaf with these fields
 abbrev pub leaf_of : LeafKind → ℕ → ℕ → TokenType → Option ℕ → ℕ × ℕ → LeafFields

@@ -1,6 +1,6 @@
 -- What a call does, answers and tells.
 use Rattle.std.specs.Prelude.{List, []}
-use Rattle.records.specs.Heard.{Told}
+use Rattle.reports.specs.Heard.{Told}
 use Rattle.recovery_model.specs.Calls.{Answer}
 use Rattle.recovery_model.specs.Views.{View}
 

@@ -2,11 +2,11 @@
 use Rattle.std.specs.Prelude.{ℕ, zero, suc, ◌+◌, ◌-◌, min, Bool, true, false, ◌||◌, List, [], ◌∷◌, ◌++◌, length, ℤ, None, if◌then◌else◌}
 use Rattle.token.specs.Tokens.{Fields, type_number, is_eof}
 use Rattle.token_stream.specs.Streams.{passed}
-use Rattle.records.specs.declared.leaf.LeafKind.{LeafKind}
-use Rattle.records.specs.declared.leaf.LeafKind.TheVariants.{Terminal, Error}
-use Rattle.records.specs.declared.report.ReportKind.{ReportKind}
-use Rattle.records.specs.Leaves.{LeafFields}
-use Rattle.records.specs.Heard.{Told, told_at}
+use Rattle.leaves.specs.declared.leaf.LeafKind.{LeafKind}
+use Rattle.leaves.specs.declared.leaf.LeafKind.TheVariants.{Terminal, Error}
+use Rattle.reports.specs.declared.report.ReportKind.{ReportKind}
+use Rattle.leaves.specs.Leaves.{LeafFields}
+use Rattle.reports.specs.Heard.{Told, told_at}
 use Rattle.recovery_model.specs.declared.strategy_state.Mode.{Mode}
 use Rattle.recovery_model.specs.declared.strategy_state.Mode.TheVariants.{Normal, InErrorRecovery}
 use Rattle.recovery_model.specs.declared.open_rule.OpenRule.{OpenRule}

@@ -1,10 +1,10 @@
 -- Matching a token, and inline recovery where it does not match.
 use Rattle.std.specs.Prelude.{ℕ, ◌-◌, Bool, ℤ, negsuc, Some, None, if◌then◌else◌, get_or, unwrap_or}
 use Rattle.atn_graph.specs.Net.{Net, no_edge, edges_of}
-use Rattle.records.specs.declared.leaf.LeafKind.TheVariants.{Error}
-use Rattle.records.specs.declared.report.ReportKind.TheVariants.{UnwantedToken, MissingToken}
-use Rattle.records.specs.Heard.{Told}
-use Rattle.records.specs.Reports.{smallest_type}
+use Rattle.leaves.specs.declared.leaf.LeafKind.TheVariants.{Error}
+use Rattle.reports.specs.declared.report.ReportKind.TheVariants.{UnwantedToken, MissingToken}
+use Rattle.reports.specs.Heard.{Told}
+use Rattle.reports.specs.Reports.{smallest_type}
 use Rattle.token.specs.declared.token_type.Span.{Span}
 use Rattle.token.specs.Tokens.{Fields, is_eof, kept_span}
 use Rattle.token_stream.specs.Tapes.{token_at}

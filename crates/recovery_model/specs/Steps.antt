@@ -3,8 +3,8 @@ use Rattle.std.specs.Prelude.{◌≡◌, ℕ, ◌==◌, List, [], ◌∷◌, Opt
 use Rattle.errors.specs.declared.denial.Denial.{Denial}
 use Rattle.atn_graph.specs.Net.{Net, rule_at}
 use Rattle.ll1_analyzer.specs.Chains.{follow_states}
-use Rattle.records.specs.declared.report.ReportKind.TheVariants.{NoViableAlternative, InputMismatch as MismatchReport, FailedPredicate}
-use Rattle.records.specs.Heard.{Told}
+use Rattle.reports.specs.declared.report.ReportKind.TheVariants.{NoViableAlternative, InputMismatch as MismatchReport, FailedPredicate}
+use Rattle.reports.specs.Heard.{Told}
 use Rattle.recovery_model.specs.declared.call.Call.{Call}
 use Rattle.recovery_model.specs.declared.call.Call.TheVariants.{State, Enter, Leave, Match, Wildcard, Sync, Report, Recover}
 use Rattle.recovery_model.specs.declared.open_rule.OpenRule.{OpenRule}

@@ -3,7 +3,7 @@ use Rattle.std.specs.Prelude.{ℕ, Bool, List, ℤ, pos, Option, None, unwrap_or
 use Rattle.std.specs.List.{flat_map}
 use Rattle.atn_graph.specs.Net.{Net}
 use Rattle.ll1_analyzer.specs.Chains.{follow_states}
-use Rattle.records.specs.Leaves.{LeafFields}
+use Rattle.leaves.specs.Leaves.{LeafFields}
 use Rattle.token.specs.Tokens.{Fields, type_number, token_index}
 use Rattle.token_stream.specs.Tapes.{token_at}
 use Rattle.token_stream.specs.Streams.{shown_at}

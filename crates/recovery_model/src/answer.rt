@@ -2,7 +2,7 @@
 ghost use Rattle.std.specs.Prelude.{◌≡◌};
 ghost use Rattle.recovery_model.specs.Calls.{answer_number, answer_of};
 
-use crate::token_fields::TokenFields;
+use token::TokenFields;
 use errors::denial::Denial;
 use fixed_vec::fixed_vec::FixedVec;
 

@@ -2,7 +2,7 @@
 use Rattle.std.proofs.Common.{◌≡◌, Bool, List, [], ◌∷◌, ◌||◌, false, ℤ, pos, sym, refl, subst, arith}
 use Rattle.std.specs.Ordering.{int_eq}
 use Rattle.std.proofs.Math.Bool.{or-false}
-use Rattle.records.specs.Reports.{types_in}
+use Rattle.reports.specs.Reports.{types_in}
 use Rattle.recovery_model.specs.Sets.{no_types}
 use Rattle.recovery_samples.specs.ListNet.{one_or_two, list_sets}
 use Rattle.recovery_samples.specs.ListRun.{list_tape, AsSaid, ListRun}

@@ -1,7 +1,7 @@
 -- The worked examples, by the tests of the pass net.
 use Rattle.std.proofs.Common.{◌≡◌, Bool, [], ◌∷◌, ◌||◌, false, ℤ, pos, sym, refl, subst, arith}
 use Rattle.std.proofs.Math.Bool.{or-false}
-use Rattle.records.specs.Reports.{types_in}
+use Rattle.reports.specs.Reports.{types_in}
 use Rattle.samples.proofs.PassNet.{pass_sets}
 use Rattle.recovery_samples.specs.declared.sample.Sample.{Sample}
 use Rattle.recovery_samples.specs.declared.sample.Sample.TheVariants.{Extra, Missing, MissingLast, Mismatch, MismatchReported, ToTheEnd, Outermost, LoopEntry, LoopBack}

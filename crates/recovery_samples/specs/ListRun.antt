@@ -2,10 +2,10 @@
 use Rattle.std.specs.Prelude.{◌≡◌, ℕ, List, [], ◌∷◌, ◌++◌, map, pos, Option, Some, None}
 use Rattle.errors.specs.declared.denial.Denial.TheVariants.{WrongSearch}
 use Rattle.token.specs.declared.token_type.TokenType.TheVariants.{Of}
-use Rattle.records.specs.Leaves.{LeafFields as Leaf}
-use Rattle.records.specs.declared.leaf.LeafKind.TheVariants.{Terminal}
-use Rattle.records.specs.declared.report.Report.{Report as Reported}
-use Rattle.records.specs.declared.report.ReportKind.TheVariants.{NoViableAlternative, InputMismatch as MismatchReport}
+use Rattle.leaves.specs.Leaves.{LeafFields as Leaf}
+use Rattle.leaves.specs.declared.leaf.LeafKind.TheVariants.{Terminal}
+use Rattle.reports.specs.declared.report.Report.{Report as Reported}
+use Rattle.reports.specs.declared.report.ReportKind.TheVariants.{NoViableAlternative, InputMismatch as MismatchReport}
 use Rattle.recovery_model.specs.declared.call.Call.{Call}
 use Rattle.recovery_model.specs.declared.call.Call.TheVariants.{State, Enter, Leave, Match, Sync, Report}
 use Rattle.recovery_model.specs.declared.strategy_state.Mode.{Mode}

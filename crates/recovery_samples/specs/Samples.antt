@@ -2,10 +2,10 @@
 use Rattle.std.specs.Prelude.{◌≡◌, List, [], ◌∷◌, ◌++◌, Some, None, Bool, ℤ, pos}
 use Rattle.token.specs.declared.token_type.TokenType.TheVariants.{Eof, Of}
 use Rattle.token.specs.Tokens.{Fields}
-use Rattle.records.specs.Leaves.{LeafFields as Leaf}
-use Rattle.records.specs.declared.leaf.LeafKind.TheVariants.{Terminal, Error}
-use Rattle.records.specs.declared.report.Report.{Report}
-use Rattle.records.specs.declared.report.ReportKind.TheVariants.{NoViableAlternative, InputMismatch as MismatchReport, FailedPredicate, UnwantedToken, MissingToken}
+use Rattle.leaves.specs.Leaves.{LeafFields as Leaf}
+use Rattle.leaves.specs.declared.leaf.LeafKind.TheVariants.{Terminal, Error}
+use Rattle.reports.specs.declared.report.Report.{Report}
+use Rattle.reports.specs.declared.report.ReportKind.TheVariants.{NoViableAlternative, InputMismatch as MismatchReport, FailedPredicate, UnwantedToken, MissingToken}
 use Rattle.samples.specs.Pass.{pass, PassSets}
 use Rattle.recovery_model.specs.Calls.{InputMismatch, Done, Left, Token, Mismatch as NoMatch}
 use Rattle.recovery_model.specs.declared.strategy_state.Mode.TheVariants.{Normal, InErrorRecovery}

@@ -4,10 +4,10 @@ use Rattle.std.specs.Ordering.{int_eq}
 use Rattle.ll1_analyzer.specs.Sets.{eof}
 use Rattle.token.specs.declared.token_type.TokenType.{TokenType}
 use Rattle.token.specs.Tokens.{Fields}
-use Rattle.records.specs.declared.leaf.LeafKind.{LeafKind}
-use Rattle.records.specs.declared.report.Report.{Report}
-use Rattle.records.specs.declared.report.ReportKind.{ReportKind}
-use Rattle.records.specs.Leaves.{LeafFields as Leaf}
+use Rattle.leaves.specs.declared.leaf.LeafKind.{LeafKind}
+use Rattle.reports.specs.declared.report.Report.{Report}
+use Rattle.reports.specs.declared.report.ReportKind.{ReportKind}
+use Rattle.leaves.specs.Leaves.{LeafFields as Leaf}
 use Rattle.recovery_model.specs.declared.call.Call.{Call}
 use Rattle.recovery_model.specs.Calls.{Answer}
 use Rattle.recovery_model.specs.Views.{View, place}

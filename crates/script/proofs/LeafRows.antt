@@ -1,8 +1,8 @@
 -- A leaf is made from its seven numbers alone.
 use Rattle.std.proofs.Common.{◌≡◌, ◌∙◌, ◌∷◌, [], length, get_or, refl, arith, List, ℤ, Some, None, Option, MatchOption, sym, ap, subst}
-use Rattle.records.specs.Leaves.{LeafFields, LeafFits}
-use Rattle.records.specs.LeafLines.{numbers}
-use Rattle.records.specs.Single.{numbers_tell}
+use Rattle.leaves.specs.Leaves.{LeafFields, LeafFits}
+use Rattle.leaves.specs.LeafLines.{numbers}
+use Rattle.leaves.specs.Single.{numbers_tell}
 
 pub leaf_made : (r : Option LeafFields) (said : LeafFields) (ns : List ℤ) → numbers said ≡ ns → MatchOption r (LeafFits said → ⊥) (λ l. LeafFits said × (l ≡ said)) → MatchOption r ((l : LeafFields) → LeafFits l → numbers l ≡ ns → ⊥) (λ l. LeafFits l × (numbers l ≡ ns))
 leaf_made None said ns e m = λ l f n. m (subst LeafFits (numbers_tell l said (n ∙ sym e)) f)

@@ -8,8 +8,8 @@ use Rattle.script.specs.declared.script_line.LookaheadKind.{LookaheadKind}
 use Rattle.script.specs.declared.script_line.LookaheadKind.TheVariants.{Walker, Table, Cache}
 use Rattle.script.specs.declared.script_line.Show.{Show}
 use Rattle.script.specs.declared.script_line.Show.TheVariants.{All, Channel0}
-use Rattle.records.specs.Leaves.{LeafFits}
-use Rattle.records.specs.LeafLines.{numbers}
+use Rattle.leaves.specs.Leaves.{LeafFits}
+use Rattle.leaves.specs.LeafLines.{numbers}
 use Rattle.script.specs.Words.{IsSpelt}
 
 -- the word as it is written

@@ -1,11 +1,11 @@
 ghost use Rattle.std.specs.Prelude.{◌≡◌, MatchOption, pos};
-ghost use Rattle.records.specs.Leaves.{leaf_number, LeafFits, LeafFields};
-ghost use Rattle.records.specs.LeafLines.{numbers};
-ghost use Rattle.records.specs.declared.leaf.LeafKind.{LeafKind};
+ghost use Rattle.leaves.specs.Leaves.{leaf_number, LeafFits, LeafFields};
+ghost use Rattle.leaves.specs.LeafLines.{numbers};
+ghost use Rattle.leaves.specs.declared.leaf.LeafKind.{LeafKind};
 ghost use Rattle.token.specs.Tokens.{index_number};
 
 use crate::token_row::token_type;
-use records::leaf::{Leaf, LeafKind};
+use leaves::{Leaf, LeafKind};
 
 // The kind with that number.
 fn leaf_kind(n: i32) -> Option<LeafKind>

@@ -5,7 +5,7 @@ ghost use Rattle.script.specs.declared.error.Fault.TheVariants.{UnknownWord};
 
 use crate::error::Fault;
 use crate::leaf_row::leaf_of;
-use records::leaf::Leaf;
+use leaves::Leaf;
 use std::alloc::{AllocError, Global};
 use std::fmt;
 use std::str::FromStr;

@@ -4,14 +4,19 @@ use Rattle.token.specs.declared.token_type.TokenType.{TokenType}
 use Rattle.token.specs.declared.token_type.TokenType.TheVariants.{Eof, Of}
 use Rattle.token.specs.declared.token_type.Span.{Span}
 
--- All that a token of any kind says of itself. A token that was made up has no token index, and a kind may have no start and
--- stop.
+-- All that a token of any kind says of itself. A token that was made up has no token index, and a kind may
+-- have no start and stop.
 pub record Fields : Type 0 where
   pub typ : TokenType
   pub channel : ℕ
   pub index : Option ℕ
   pub position : ℕ × ℕ
   pub span : Option Span
+
+-- the token with these fields
+abbrev pub token_of : TokenType → ℕ → Option ℕ → ℕ × ℕ → Option Span → Fields
+token_of typ channel index position span =
+    record { typ = typ; channel = channel; index = index; position = position; span = span }
 
 -- the number of a type, and of an token index
 abbrev pub type_number : TokenType → ℤ

@@ -45,25 +45,25 @@ filtered_visible ts k l h = filtered_more ts k l ∙ ap (λ xs. filtered (take k
 
 -- The last token looked at is the visible one of that number.
 record Seen (ts : List Fields) (count ahead : ℕ) : Type 0 where
-  some : 0 < count
+  positive : 0 < count
   inside : count ≤ length (filtered ts)
   same : token_at (filtered ts) (count - 1) ≡ token_at ts (ahead - 1)
   rest : filtered ts ≡ filtered (take ahead ts) ++ filtered (drop ahead ts)
 
 seen_last : (ts : List Fields) (count ahead : ℕ) → Looked ts count ahead → Seen ts count ahead
 seen_last ts count ahead so =
-    let before : (ahead - 1) + 1 ≡ ahead = omega (arith, so.some) in
+    let before : (ahead - 1) + 1 ≡ ahead = omega (arith, so.positive) in
     let front = filtered (take (ahead - 1) ts) in
     let x = token_at ts (ahead - 1) in
     let back = filtered (drop ahead ts) in
     let more : filtered (take ahead ts) ≡ front ++ x ∷ [] =
-    subst (λ k. filtered (take k ts) ≡ front ++ x ∷ []) before (filtered_visible ts (ahead - 1) (omega (arith, so.some, so.within)) so.last) in
+    subst (λ k. filtered (take k ts) ≡ front ++ x ∷ []) before (filtered_visible ts (ahead - 1) (omega (arith, so.positive, so.within)) so.last) in
     let whole : filtered ts ≡ filtered (take ahead ts) ++ back = ap filtered (sym (take-append-drop ahead ts)) ∙ filter-append visible (take ahead ts) (drop ahead ts) in
     let split : filtered ts ≡ front ++ x ∷ back = whole ∙ ap (λ xs. xs ++ back) more ∙ append_assoc front (x ∷ []) back in
     let long : length front + 1 ≡ count = omega (arith, ap length more, length_push front x, so.seen) in
     let at : count - 1 ≡ length front = omega (arith, long) in
     record {
-      some = omega (arith, long);
+      positive = omega (arith, long);
       inside = omega (arith, ap length whole, length-append (filtered (take ahead ts)) back, so.seen);
       same = ap (λ k. token_at (filtered ts) k) at ∙ ap (λ xs. token_at xs (length front)) split ∙ get_or-append_seam front x back no_token;
       rest = whole;
@@ -72,9 +72,9 @@ seen_last ts count ahead so =
 pub found_count : (ts : List Fields) (count ahead k : ℕ) → Looked ts count ahead → count ≡ k → IsFound ts k ahead
 found_count ts count ahead k so is =
     let s = seen_last ts count ahead so in
-    let inside : k - 1 < length (filtered ts) = omega (arith, is, s.inside, s.some) in
+    let inside : k - 1 < length (filtered ts) = omega (arith, is, s.inside, s.positive) in
     record {
-      some = so.some;
+      positive = so.positive;
       within = so.within;
       same = sym s.same ∙ ap (token_at (filtered ts)) (ap (λ i. i - 1) is ∙ sym (capped_inside (filtered ts) (k - 1) inside));
     }
@@ -85,11 +85,11 @@ found_eof ts count ahead k ends so few eof =
     let all : ahead ≡ length ts = at_end (cases_eq ahead (length ts)) in
     let back : filtered (drop ahead ts) ≡ [] = ap filtered (drop_all ahead ts (omega (arith, all))) in
     let long : length (filtered ts) ≡ count = omega (arith, ap length s.rest, length-append (filtered (take ahead ts)) (filtered (drop ahead ts)), ap length back, so.seen) in
-    record { some = so.some; within = so.within; same = sym s.same ∙ ap (token_at (filtered ts)) (sym (last_place (cases_lt (k - 1) (length (filtered ts))) long s.some)) }
+    record { positive = so.positive; within = so.within; same = sym s.same ∙ ap (token_at (filtered ts)) (sym (last_place (cases_lt (k - 1) (length (filtered ts))) long s.positive)) }
   where
     at_end : (ahead ≡ length ts) ⊎ (ahead ≡ length ts → ⊥) → ahead ≡ length ts
     at_end (inl e) = e
-    at_end (inr ne) = absurd (both_ways _ (ends.before (ahead - 1) (omega (arith, so.some, so.within, ne))) eof)
+    at_end (inr ne) = absurd (both_ways _ (ends.before (ahead - 1) (omega (arith, so.positive, so.within, ne))) eof)
 
     last_place : (k - 1 < length (filtered ts)) ⊎ (length (filtered ts) ≤ k - 1) → length (filtered ts) ≡ count → 0 < count → capped (k - 1) (filtered ts) ≡ count - 1
     last_place (inl m) long some = capped_inside (filtered ts) (k - 1) m ∙ omega (arith, m, long, few, some)
@@ -97,7 +97,7 @@ found_eof ts count ahead k ends so few eof =
 
 -- what a filter carries can be taken out
 looked_prop : (ts : List Fields) (count ahead : ℕ) → IsProp (Looked ts count ahead)
-looked_prop ts count ahead a b i = record { some = le_prop a.some b.some i; within = le_prop a.within b.within i; seen = ℕ_set _ _ a.seen b.seen i; last = Bool-set _ _ a.last b.last i }
+looked_prop ts count ahead a b i = record { positive = le_prop a.positive b.positive i; within = le_prop a.within b.within i; seen = ℕ_set _ _ a.seen b.seen i; last = Bool-set _ _ a.last b.last i }
 
 pub looked_of : (ts : List Fields) (count ahead : ℕ) → ∥ Looked ts count ahead ∥₁ → Looked ts count ahead
 looked_of ts count ahead w = ∥∥₁_elim w (looked_prop ts count ahead) (λ x. x)

@@ -37,7 +37,7 @@ module _ {T : Type 0} (fields : T → Fields) (xs before : List T) (last : T) (s
   pub decides_ends : (r : Bool) → is_eof (fields last).typ ≡ true → AllAnswer (λ t. is_eof (fields t).typ ≡ false) (λ t. is_eof (fields t).typ ≡ true) before r → Decides r (EndsInEof (map fields xs))
   decides_ends r eof all = decides_all (λ t. is_eof (fields t).typ ≡ false) (λ t. is_eof (fields t).typ ≡ true) before last r all
       (λ none. record {
-        some = omega (arith, long);
+        non_empty = omega (arith, long);
         last = λ k e. ap (λ t. is_eof t.typ) (at_last k e) ∙ eof;
         before = λ k l. ap (λ t. is_eof t.typ) (at_before k (omega (arith, l, long))) ∙ none k (omega (arith, l, long));
       })

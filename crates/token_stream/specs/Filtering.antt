@@ -30,11 +30,11 @@ module _ (tape ts : List Fields) (s : Shows tape ts) where
   kept = filter visible (take end ts)
 
   last_eof : is_eof last.typ ≡ true
-  last_eof = s.ends.last end (omega (arith, s.ends.some))
+  last_eof = s.ends.last end (omega (arith, s.ends.non_empty))
 
   split : filtered ts ≡ kept ++ last ∷ []
   split =
-      ap (filter visible) (sym (take_all (end + 1) ts (omega arith))) ∙ filter_more visible ts end no_token (omega (arith, s.ends.some))
+      ap (filter visible) (sym (take_all (end + 1) ts (omega arith))) ∙ filter_more visible ts end no_token (omega (arith, s.ends.non_empty))
       ∙ ap (λ us. kept ++ us) (cond-true (visible last) (last ∷ []) [] (or_left (is_eof last.typ) _ last_eof))
 
   long : length (filtered ts) ≡ length kept + 1
@@ -44,7 +44,7 @@ module _ (tape ts : List Fields) (s : Shows tape ts) where
   filter_shows = record {
     sound = s.sound;
     ends = record {
-      some = omega (arith, long);
+      non_empty = omega (arith, long);
       last = λ k e. ap (λ us. is_eof (token_at us k).typ) split ∙ ap (λ t. is_eof t.typ) (get_or_push kept last no_token k (omega (arith, e, long))) ∙ last_eof;
       before = λ k l. (later k (k + 1) no_token (omega arith) l).0;
     };

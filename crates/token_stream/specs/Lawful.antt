@@ -19,13 +19,13 @@ placed_prop t k a b i = record { index = option_prop _ _ a.index b.index i; line
 
 ends_prop : (ts : List Fields) → IsProp (EndsInEof ts)
 ends_prop ts a b i = record {
-  some = le_prop a.some b.some i;
+  non_empty = le_prop a.non_empty b.non_empty i;
   last = λ k e. Bool-set _ _ (a.last k e) (b.last k e) i;
   before = λ k l. Bool-set _ _ (a.before k l) (b.before k l) i;
 }
 
 pub sound_prop : (tape : List Fields) → IsProp (IsTape tape)
-sound_prop tape a b i = record { few = le_prop a.few b.few i; ends = ends_prop tape a.ends b.ends i; placed = λ k l. placed_prop (token_at tape k) k (a.placed k l) (b.placed k l) i }
+sound_prop tape a b i = record { bounded = le_prop a.bounded b.bounded i; ends = ends_prop tape a.ends b.ends i; placed = λ k l. placed_prop (token_at tape k) k (a.placed k l) (b.placed k l) i }
 
 -- from place p of a tape on
 module _ (tape : List Fields) (p : ℕ) (l : p < length tape) (w : IsTape tape) where
@@ -43,7 +43,7 @@ module _ (tape : List Fields) (p : ℕ) (l : p < length tape) (w : IsTape tape) 
 
   ends : EndsInEof (drop p tape)
   ends = record {
-    some = omega (arith, left, l);
+    non_empty = omega (arith, left, l);
     last = λ k e. ap (λ t. is_eof t.typ) (at k) ∙ w.ends.last (p + k) (omega (arith, e, left, l));
     before = λ k h. ap (λ t. is_eof t.typ) (at k) ∙ w.ends.before (p + k) (omega (arith, h, left, l));
   }

@@ -6,7 +6,7 @@ use Rattle.token_stream.specs.Streams.{capped, visible, filtered}
 
 -- Token number `ahead` below, counted from 1, is visible, and it is number `count` of the visible ones.
 pub record Looked (below : List Fields) (count ahead : ℕ) : Type 0 where
-  pub some : 0 < ahead
+  pub positive : 0 < ahead
   pub within : ahead ≤ length below
   pub seen : length (filtered (take ahead below)) ≡ count
   pub last : visible (token_at below (ahead - 1)) ≡ true
@@ -20,6 +20,6 @@ pub record IsNext (below : List Fields) (from j : ℕ) : Type 0 where
 
 -- Token number j below, counted from 1, is the k-th visible one, or EOF if there are fewer.
 pub record IsFound (below : List Fields) (k j : ℕ) : Type 0 where
-  pub some : 0 < j
+  pub positive : 0 < j
   pub within : j ≤ length below
   pub same : token_at below (j - 1) ≡ token_at (filtered below) (capped (k - 1) (filtered below))

@@ -2,8 +2,10 @@
 use Rattle.std.specs.Prelude.{◌≡◌, ℕ, ◌+◌, ◌<◌, ◌≤◌, true, false, List, length, slice_index_or, Some, None}
 use Rattle.errors.specs.declared.denial.Denial.{Denial}
 use Rattle.errors.specs.declared.denial.Denial.TheVariants.{FaultyTape}
+use Rattle.token.specs.declared.token.TheConstants.{MAX_POSITION}
 use Rattle.token.specs.declared.token_type.TokenType.TheVariants.{Eof}
 use Rattle.token.specs.Tokens.{Fields, is_eof}
+use Rattle.token_stream.specs.declared.tape.TheConstants.{MAX_TOKENS}
 
 -- what stands past the end of a list
 abbrev pub no_token : Fields
@@ -15,18 +17,18 @@ token_at ts k = slice_index_or ts k no_token
 -- the token at place k: its token index is its place, and its line and column are at most 1,000,000
 pub record Placed (t : Fields) (k : ℕ) : Type 0 where
   pub index : t.index ≡ Some k
-  pub line : t.position.0 ≤ 1000000
-  pub column : t.position.1 ≤ 1000000
+  pub line : t.position.0 ≤ MAX_POSITION
+  pub column : t.position.1 ≤ MAX_POSITION
 
 -- EOF stands last and nowhere else.
 pub record EndsInEof (ts : List Fields) : Type 0 where
-  pub some : 0 < length ts
+  pub non_empty : 0 < length ts
   pub last : (k : ℕ) → k + 1 ≡ length ts → is_eof (token_at ts k).typ ≡ true
   pub before : (k : ℕ) → k + 1 < length ts → is_eof (token_at ts k).typ ≡ false
 
 -- A tape has 1 to 65,535 tokens, ends in its one EOF, and each token is in its place.
 pub record IsTape (tape : List Fields) : Type 0 where
-  pub few : length tape ≤ 65535
+  pub bounded : length tape ≤ MAX_TOKENS
   pub ends : EndsInEof tape
   pub placed : (k : ℕ) → k < length tape → Placed (token_at tape k) k
 

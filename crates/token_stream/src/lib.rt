@@ -1,9 +1,12 @@
-// Tapes of tokens, and streams over them.
 #![tactic(auto)]
+//! Tapes of tokens, and the streams that a parser reads: tables of a tape's tokens, and filters.
 
-pub mod filter;
-pub mod filter_stream;
-pub mod stream;
-pub mod table;
-pub mod table_stream;
-pub mod tape;
+mod filter;
+mod stream;
+mod table;
+mod tape;
+
+pub use filter::Filter;
+pub use stream::{IntStream, TokenStream};
+pub use table::TokenTable;
+pub use tape::MAX_TOKENS;

@@ -1,7 +1,7 @@
 use Rattle.std.proofs.Common.{◌≡◌, ◌∙◌, ◌-◌, ◌/◌, ◌≤◌, length, drop, get_or, ap, sym, subst, arith}
 use Rattle.std.proofs.lemmas.List.{get_or_push, length_push, length-drop, take_all}
-use Rattle.records.specs.Lists.{listed, behind}
-use Rattle.records.specs.Writers.{unwritten}
+use Rattle.fixed_vec.specs.Lists.{listed, behind}
+use Rattle.leaves.specs.Writers.{unwritten}
 use Rattle.answers.proofs.LastLine.{long_enough, last_line, some_free}
 use Rattle.answers.proofs.leaves.add_leaf.Goals as goal
 

@@ -1,9 +1,9 @@
 use Rattle.std.proofs.Common.{rules, ◌≡◌, List, [], ◌∷◌, ◌++◌, drop, length, ℕ, ◌∙◌, ap, ap₂, arith}
 use Rattle.std.specs.List.{flat_map}
 use Rattle.std.proofs.lemmas.List.{append-nil}
-use Rattle.records.specs.LeafLines.{leaf_line}
-use Rattle.records.specs.Writers.{unwritten, leaves_written}
-use Rattle.records.proofs.Memory.{whole_text}
+use Rattle.leaves.specs.LeafLines.{leaf_line}
+use Rattle.leaves.specs.Writers.{unwritten, leaves_written}
+use Rattle.leaves.proofs.Memory.{whole_text}
 use Rattle.records_tests.proofs.owners.write_two.Goals as goal
 
 pub returns : goal.returns

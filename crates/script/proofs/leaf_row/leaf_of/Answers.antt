@@ -1,5 +1,5 @@
 use Rattle.std.proofs.Common.{◌≡◌, ◌∙◌, ◌∷◌, [], pos, get_or, length, rules}
-use Rattle.records.specs.Leaves.{leaf_number}
+use Rattle.leaves.specs.Leaves.{leaf_number}
 use Rattle.token.specs.Tokens.{type_number, index_number}
 use Rattle.script.proofs.LeafRows.{leaf_made, seven}
 use Rattle.script.proofs.leaf_row.leaf_of.Goals as goal

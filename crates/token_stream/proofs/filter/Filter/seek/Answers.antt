@@ -9,6 +9,6 @@ look_on-cursor-requires g c κs =
       (refl, tt),
       (
         (λ x e. looked_of (g.S.IntStream.shown s.below) x.count x.ahead (s.looked x (filter_kept _ _ _ c.filter-seen.ensures x e).0)),
-        ((λ x e. let passed = (filter_kept _ _ _ c.filter-seen.ensures x e).1 in search (rules, tests)), c.at_least_one-k.ensures.some),
+        ((λ x e. let passed = (filter_kept _ _ _ c.filter-seen.ensures x e).1 in search (rules, tests)), c.at_least_one-k.ensures.positive),
       ),
     )

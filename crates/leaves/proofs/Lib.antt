@@ -1,0 +1,3 @@
+pub mod Justified
+pub mod Memory
+pub mod Texts

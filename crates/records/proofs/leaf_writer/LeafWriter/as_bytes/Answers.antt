@@ -1,5 +1,0 @@
-use Rattle.records.proofs.Texts.{leaves_lines}
-use Rattle.records.proofs.leaf_writer.LeafWriter.as_bytes.Goals as goal
-
-pub returns : goal.returns
-returns c = leaves_lines c.args.self.now

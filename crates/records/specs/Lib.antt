@@ -1,9 +1,0 @@
-pub mod Lists
-pub mod Leaves
-pub mod Adding
-pub mod LeafLines
-pub mod Lengths
-pub mod Single
-pub mod Writers
-pub mod Reports
-pub mod Heard
