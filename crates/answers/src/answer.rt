@@ -12,7 +12,7 @@ use crate::shown::ShownToken;
 use crate::tape::answer_tape;
 use atn::atn::Atn;
 use errors::denial::Denial;
-use interval_set::set::IntervalSet;
+use interval_set::IntervalSet;
 use reports::Counter;
 use script::answer::Answer;
 use script::question::Question;

@@ -10,7 +10,7 @@ use crate::leaves::AddedLeaf;
 use crate::shown::ShownToken;
 use atn::atn::Atn;
 use errors::denial::Denial;
-use interval_set::set::IntervalSet;
+use interval_set::IntervalSet;
 use ll1_analyzer::analyzer::LL1Analyzer;
 use ll1_analyzer::cache::Cache;
 use ll1_analyzer::lookahead::Lookahead;

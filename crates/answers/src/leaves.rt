@@ -11,7 +11,7 @@ use leaves::LeafList;
 use leaves::LeafTable;
 use leaves::LeafWriter;
 use std::alloc::{AllocError, Global};
-use token::token_type::TokenType;
+use token::TokenType;
 
 // The bytes of a line.
 pub const LINE: usize = 57;

@@ -5,9 +5,9 @@ ghost use Rattle.answers.specs.Tapes.{token_fields};
 
 use std::alloc::{AllocError, Global};
 use std::fmt;
-use token::token::Token;
-use token::token_type::{Span, TokenType};
-use token_stream::stream::TokenStream;
+use token::Token;
+use token::{Span, TokenType};
+use token_stream::TokenStream;
 
 // A token of either kind, as it is printed.
 #[derive(Clone, Copy, PartialEq, Eq, Debug)]

@@ -17,10 +17,10 @@ use script::script::Script;
 use script::script_line::Show;
 use script::token_row::{LaneRow, TokenRow, WordRow};
 use std::alloc::{AllocError, Global};
-use token::kinds::{CommonToken, KeptSpan, LaneFactory, WordFactory};
-use token::token::{Token, TokenFactory};
-use token_stream::filter::Filter;
-use token_stream::table::TokenTable;
+use token::{CommonToken, KeptSpan, LaneFactory, WordFactory};
+use token::{Token, TokenFactory};
+use token_stream::Filter;
+use token_stream::TokenTable;
 
 // The tokens that the rows write, each with its place as its token index; None if they write no tape.
 fn tokens_of<S: KeptSpan + Copy>(

@@ -7,9 +7,9 @@ ghost use Rattle.atn.specs.Checked.{net_of};
 ghost use Rattle.atn.specs.Labels.{is_net_type, takes, Labels, TakesAt};
 
 use crate::atn::Atn;
-use atn_graph::transition::TransitionKind;
-use interval_set::interval::Interval;
-use interval_set::set::IntervalSet;
+use atn_graph::TransitionKind;
+use interval_set::Interval;
+use interval_set::IntervalSet;
 
 impl Atn {
     // The numbers of one interval that fits the net, or none.

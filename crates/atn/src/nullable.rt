@@ -9,8 +9,8 @@ ghost use Rattle.atn.specs.Reach.{KnowsNullable};
 
 use crate::nullables::NullableStates;
 use crate::visits::Visits;
-use atn_graph::graph::Graph;
-use atn_graph::transition::{Move, Transition};
+use atn_graph::Graph;
+use atn_graph::{Move, Transition};
 
 impl<'g> NullableStates<'g> {
     // Passes until one adds nothing.

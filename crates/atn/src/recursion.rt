@@ -8,8 +8,8 @@ ghost use Rattle.atn.specs.Reach.{KnowsNullable};
 ghost use Rattle.atn.specs.Walks.{LeftRecursiveFrom, HasLeftRecursion};
 
 use crate::nullables::NullableStates;
-use atn_graph::graph::Graph;
-use atn_graph::transition::{Move, Transition};
+use atn_graph::Graph;
+use atn_graph::{Move, Transition};
 
 // Whether the edge calls the rule that starts at t.
 fn is_call(e: &Transition, t: usize) -> bool

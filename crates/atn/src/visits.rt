@@ -3,7 +3,7 @@ ghost use Rattle.std.specs.Prelude.{◌≡◌, ℕ, ◌+◌, false, length, slic
 ghost use Rattle.fixed_vec.specs.Items.{items};
 ghost use Rattle.atn.specs.Marks.{elem, unmarked};
 
-use fixed_vec::fixed_vec::FixedVec;
+use fixed_vec::FixedVec;
 
 // Marks are kept beside the list, in fixed memory: they tell at once whether a state is found.
 #[derive(Clone, Copy)]

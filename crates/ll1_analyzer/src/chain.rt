@@ -8,9 +8,9 @@ ghost use Rattle.ll1_analyzer.specs.Listing.{follow, ReadsCalls, Lists};
 
 use crate::follow_states::FollowStates;
 use crate::lookahead::Lookahead;
-use atn_graph::transition::{Move, Transition};
+use atn_graph::{Move, Transition};
 use errors::denial::Denial;
-use fixed_vec::fixed_vec::FixedVec;
+use fixed_vec::FixedVec;
 
 // A rule edge, by the state that follows the call.
 #[derive(Clone, Copy, Default)]

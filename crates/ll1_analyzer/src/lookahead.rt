@@ -7,9 +7,9 @@ ghost use Rattle.ll1_analyzer.specs.Answers.{HoldsExactly, KeepsNet};
 ghost use Rattle.ll1_analyzer.specs.Sets.{Within};
 
 use atn::atn::Atn;
-use atn_graph::atn_state::StateKind;
-use atn_graph::transition::Transition;
-use interval_set::set::IntervalSet;
+use atn_graph::StateKind;
+use atn_graph::Transition;
+use interval_set::IntervalSet;
 
 // The end of the input, and what stands for the end of a walk on a stop state.
 pub const EOF: i32 = -1;

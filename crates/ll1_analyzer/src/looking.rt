@@ -10,7 +10,7 @@ use crate::analyzer::LL1Analyzer;
 use crate::lookahead::{EPSILON, Lookahead};
 use atn::atn::Atn;
 use atn::nullables::NullableStates;
-use interval_set::set::IntervalSet;
+use interval_set::IntervalSet;
 
 impl<'a> LL1Analyzer<'a> {
     pub fn new(atn: &'a Atn) -> LL1Analyzer<'a>

@@ -1,5 +1,5 @@
 // A place of the cache.
-use interval_set::set::IntervalSet;
+use interval_set::IntervalSet;
 
 // The set that was answered for a state.
 #[derive(Clone, Copy)]

@@ -1,7 +1,7 @@
 // A listener that keeps something of the types expected.
 ghost use Rattle.std.specs.Prelude.{◌≡◌, Bool, false, ◌||◌, negsuc};
 
-use interval_set::set::IntervalSet;
+use interval_set::IntervalSet;
 use reports::Counter;
 use reports::Listener;
 use reports::Report;

@@ -6,7 +6,7 @@ ghost use Rattle.reports.specs.Heard.{Told, Hears, told_at};
 ghost use Rattle.reports.specs.Reports.{expects};
 
 use crate::eof_watch::EofWatch;
-use interval_set::set::IntervalSet;
+use interval_set::IntervalSet;
 use fixed_vec::BoundedList;
 use reports::Counter;
 use leaves::Leaf;

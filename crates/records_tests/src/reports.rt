@@ -1,8 +1,8 @@
 // What a report says of the types that were expected.
-use interval_set::set::IntervalSet;
+use interval_set::IntervalSet;
 use reports::{Report, ReportKind};
 use std::test::*;
-use token::token_type::TokenType;
+use token::TokenType;
 
 fn of(expected: &IntervalSet) -> (u16, TokenType) {
     let r = Report::new(ReportKind::MissingToken, None, (7, 8), expected);

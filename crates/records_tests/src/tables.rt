@@ -2,7 +2,7 @@
 use crate::made::{leaf, report};
 use crate::owners::{add_two, report_two};
 use errors::denial::Denial;
-use interval_set::set::IntervalSet;
+use interval_set::IntervalSet;
 use fixed_vec::BoundedList;
 use reports::Counter;
 use leaves::LeafList;

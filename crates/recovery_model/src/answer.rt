@@ -1,15 +1,18 @@
-// What calls answer.
+//! What calls answer.
 ghost use Rattle.std.specs.Prelude.{◌≡◌};
 ghost use Rattle.recovery_model.specs.Calls.{answer_number, answer_of};
 
+use errors::Denial;
+use fixed_vec::FixedVec;
 use token::TokenFields;
-use errors::denial::Denial;
-use fixed_vec::fixed_vec::FixedVec;
 
-// The invoking states of open rules, innermost first, in 16 bits each: a net has at most 512 states.
-pub type Chain = FixedVec<u16, 63>;
+/// The most invoking states in a chain: one less than there may be open rules.
+pub const MAX_CHAIN: usize = 63;
 
-// A token that did not match, and where the parser stood: its state, and the chain of its open rules.
+/// The invoking states of open rules, innermost first, at most 63; a net has at most 512 states, so 16 bits hold each.
+pub type Chain = FixedVec<u16, MAX_CHAIN>;
+
+/// A token that did not match, and where the parser stood: its state, and the chain of its open rules.
 #[derive(Clone, Copy)]
 pub struct Mismatch {
     pub token: TokenFields,
@@ -17,17 +20,20 @@ pub struct Mismatch {
     pub chain: Chain,
 }
 
+/// What a call answers.
 #[derive(Clone, Copy)]
 pub enum Answer {
     Done,
-    // a rule was left to which so many leaves were added
+    /// a rule was left to which so many leaves were added, or 4,294,967,295 if they were more
     Left { leaves: u32 },
+    /// the token that was taken, or the missing symbol
     Token { token: TokenFields },
     Mismatch { mismatch: Mismatch },
     Denied { denial: Denial },
 }
 
 impl Answer {
+    /// The number of the answer's case: 1 done, 2 left, 3 token, 4 mismatch, 5 denied.
     pub fn number(&self) -> u8
         ensures { result ≡ answer_number (answer_of self.now) }
     {

@@ -1,8 +1,8 @@
-// The calls of a parser.
+//! The calls of a parser.
 ghost use Rattle.std.specs.Prelude.{◌≡◌};
 ghost use Rattle.recovery_model.specs.Calls.{call_number};
 
-// A call, with the numbers that it is given: these may be any, and are judged by the call.
+/// A call, with the numbers that it is given: these may be any, and are judged by the call.
 #[derive(Clone, Copy, PartialEq, Eq, Debug)]
 pub enum Call {
     State { state: u32 },
@@ -16,6 +16,7 @@ pub enum Call {
 }
 
 impl Call {
+    /// The call's number, from 1, in the order in which they stand here.
     pub fn number(self) -> u8
         ensures { result ≡ call_number self }
     {

@@ -1,14 +1,14 @@
-// Runs on which steps that are at fault break the tape law.
+//! Runs on which steps that are at fault break the tape law.
 ghost use Rattle.std.specs.Prelude.{◌≡◌};
 ghost use Rattle.recovery_samples.specs.Faulty.{types_of, opening as opening_calls, calls_of, Faulty};
 
-use recovery_model::call::Call;
+use recovery_model::Call;
 
 #[derive(Clone, Copy, PartialEq, Eq, Debug)]
 pub enum Run {
-    // recovers, one after the other
+    /// recovers, one after the other
     Recovers,
-    // a recover and a match, again and again
+    /// a recover and a match, again and again
     Rounds,
 }
 
@@ -16,7 +16,7 @@ const SEEK: Call = Call::Recover;
 
 const TAKE: Call = Call::Match { token_type: 1 };
 
-// The calls with which every run begins.
+/// The calls with which every run begins.
 pub fn opening() -> &'static [Call]
     ensures { result.now ≡ opening_calls }
 {
@@ -29,7 +29,7 @@ pub fn opening() -> &'static [Call]
 }
 
 impl Run {
-    // The types of the tape before EOF.
+    /// The types of the tape before EOF.
     pub fn types(self) -> &'static [u8]
         ensures { result.now ≡ types_of self }
     {
@@ -39,7 +39,7 @@ impl Run {
         }
     }
 
-    // The calls of the run, one after the other. The step keeps the law on them, and each of seven faulty ones breaks it on one.
+    /// The calls of the run, one after the other. The step keeps the law on them, and each of seven faulty ones breaks it on one.
     #[tactic(auto, using(crate::proofs::Broken::faulty))]
     pub fn calls(self) -> &'static [Call]
         ensures calls { result.now ≡ calls_of self }

@@ -1,17 +1,17 @@
-// A run in the list net, in which a pair is saved and a report kept back.
+//! A run in the list net, in which a pair is saved and a report kept back.
 ghost use Rattle.std.specs.Prelude.{◌≡◌};
 ghost use Rattle.recovery_samples.specs.ListRun.{list_tape, list_calls, ListRun};
 
-use recovery_model::call::Call;
+use recovery_model::Call;
 
-// The types of the tape before EOF.
+/// The types of the tape before EOF.
 pub fn types() -> &'static [u8]
     ensures { result.now ≡ list_tape }
 {
     &[2, 1, 1]
 }
 
-// The calls of a new parser, one after the other. What each answers and does is known.
+/// The calls of a new parser, one after the other. What each answers and does is known.
 #[tactic(auto, using(crate::proofs::Listed::list_run))]
 pub fn calls() -> &'static [Call]
     ensures calls { result.now ≡ list_calls }

@@ -1,34 +1,34 @@
-// The worked examples in the pass net: the tape, the calls that open it, and the calls in question.
+//! The worked examples in the pass net: the tape, the calls that open it, and the calls in question.
 ghost use Rattle.std.specs.Prelude.{◌≡◌};
 ghost use Rattle.recovery_samples.specs.Examples.{types_of, opening_of, calls_of};
 ghost use Rattle.recovery_samples.specs.Samples.{Samples};
 
-use recovery_model::call::Call;
+use recovery_model::Call;
 
 #[derive(Clone, Copy, PartialEq, Eq, Debug)]
 pub enum Sample {
-    // a token is one too many
+    /// a token is unwanted
     Extra,
-    // a token is missing
+    /// a token is missing
     Missing,
-    // a token is missing before the end of the input
+    /// a token is missing before the end of the input
     MissingLast,
-    // no repair helps
+    /// neither deletion nor insertion helps
     Mismatch,
-    // the same, and it is reported
+    /// the same, and it is reported
     MismatchReported,
-    // no type that may follow is left
+    /// no type that may follow is left
     ToTheEnd,
-    // no rule called the open one, so no type may follow it
+    /// no rule called the open one, so no type may follow it
     Outermost,
-    // a token is one too many where a loop begins
+    /// a token is unwanted where a loop begins
     LoopEntry,
-    // tokens do not fit on the way back of a loop
+    /// tokens do not fit on the way back of a loop
     LoopBack,
 }
 
 impl Sample {
-    // The types of the tape before EOF.
+    /// The types of the tape before EOF.
     pub fn types(self) -> &'static [u8]
         ensures { result.now ≡ types_of self }
     {
@@ -44,7 +44,7 @@ impl Sample {
         }
     }
 
-    // The calls that bring a new parser to where the example begins.
+    /// The calls that bring a new parser to where the example begins.
     pub fn opening(self) -> &'static [Call]
         ensures { result.now ≡ opening_of self }
     {
@@ -91,7 +91,7 @@ impl Sample {
         }
     }
 
-    // The calls of the example, one after the other. Where it begins, and what they answer and do, is known.
+    /// The calls of the example, one after the other. Where it begins, and what they answer and do, is known.
     #[tactic(auto, using(crate::proofs::Repaired::samples))]
     pub fn calls(self) -> &'static [Call]
         ensures calls { result.now ≡ calls_of self }

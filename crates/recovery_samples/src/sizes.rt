@@ -1,5 +1,5 @@
 // How much room a line of the journal takes.
-use recovery_model::event::Event;
+use recovery_model::Event;
 use std::mem::size_of;
 use std::test::*;
 

@@ -1,4 +1,4 @@
-// The pass net: any number of calls of a rule that takes the types 1, 2 and 3, and then the end of the input.
+//! The pass net: any number of calls of a rule that takes the types 1, 2 and 3, and then the end of the input.
 ghost use Rattle.std.specs.Prelude.{◌≡◌, IsOk, IfOk};
 ghost use Rattle.errors.specs.Denials.{DeniesFirst};
 ghost use Rattle.atn.specs.Checked.{net_of};
@@ -9,14 +9,14 @@ ghost use Rattle.samples.specs.Pass.{pass, PassSets};
 
 use crate::rows::{EDGES, RULES, STATES};
 use atn::atn::Atn;
-use atn_graph::tables::{Counts, Tables};
+use atn_graph::{Counts, Tables};
 use errors::denial::Denial;
-use interval_set::set::IntervalSet;
+use interval_set::IntervalSet;
 use ll1_analyzer::analyzer::LL1Analyzer;
 use ll1_analyzer::sets::next_tokens;
 
-// The pass net, read from its rows and checked. It is never denied, and the within-rule sets of four
-// of its states are known.
+/// The pass net, read from its rows and checked. It is never denied, and the within-rule sets of four
+/// of its states are known.
 pub fn pass_net() -> Result<Atn, Denial>
     ensures accepted { IsOk result }
     ensures net { IfOk result (λ a. net_of a ≡ pass) }
@@ -37,7 +37,7 @@ pub fn pass_net() -> Result<Atn, Denial>
     })
 }
 
-// The within-rule set of a state of the pass net. A state past the last is denied.
+/// The within-rule set of a state of the pass net. A state past the last is denied.
 pub fn pass_next_tokens(s: usize) -> Result<IntervalSet, Denial>
     ensures verdict { DeniesFirst (StateFault pass s) result }
     ensures holds { IfOk result (λ set. HoldsExactly set (Within pass s)) }

@@ -1,5 +1,5 @@
 // The rows of the pass net, by macros, since a constant cannot call a function.
-use atn_graph::tables::{EdgeRow, RuleRow, StateRow};
+use atn_graph::{EdgeRow, RuleRow, StateRow};
 
 macro_rules! rule {
     ($start:expr, $stop:expr) => {

@@ -1,7 +1,7 @@
 // The sets of the pass net, as intervals.
 use crate::pass::pass_next_tokens;
 use errors::denial::Denial;
-use interval_set::interval::Interval;
+use interval_set::Interval;
 use std::process::Abort;
 use std::test::Fail;
 

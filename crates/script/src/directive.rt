@@ -1,6 +1,6 @@
 use crate::token_row::{LaneRow, WordRow};
-use atn_graph::tables::{Counts, EdgeRow, RuleRow, StateRow};
-use interval_set::interval::Interval;
+use atn_graph::{Counts, EdgeRow, RuleRow, StateRow};
+use interval_set::Interval;
 
 // What one line of a script says.
 #[derive(Clone, Copy)]

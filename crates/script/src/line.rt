@@ -7,11 +7,11 @@ use crate::error::Fault;
 use crate::keyword::Keyword;
 use crate::number::read_number;
 use crate::token_row::TokenRow;
-use atn_graph::tables::{Counts, EdgeRow, RuleRow, StateRow};
-use interval_set::interval::Interval;
+use atn_graph::{Counts, EdgeRow, RuleRow, StateRow};
+use interval_set::Interval;
 use std::alloc::Global;
 use std::str::SplitAsciiWhitespace;
-use token::token_type::Span;
+use token::Span;
 
 impl Directive {
     // The keyword's directive with these numbers.

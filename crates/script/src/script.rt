@@ -2,8 +2,8 @@ use crate::question::Question;
 use crate::rows::Rows;
 use crate::script_line::{LookaheadKind, Show};
 use crate::token_row::{LaneRow, WordRow};
-use atn_graph::tables::{Counts, EdgeRow, RuleRow, StateRow};
-use interval_set::interval::Interval;
+use atn_graph::{Counts, EdgeRow, RuleRow, StateRow};
+use interval_set::Interval;
 
 // The most rows that a table may have.
 pub const MAX_ROWS: usize = 1_000_000;

@@ -7,7 +7,7 @@ use crate::rows::Rows;
 use crate::script::{MAX_ROWS, Script};
 use crate::script_line::{LookaheadKind, Show};
 use crate::token_row::{LaneRow, WordRow};
-use atn_graph::tables::{Counts, Tables};
+use atn_graph::{Counts, Tables};
 use std::alloc::Global;
 
 impl Script {

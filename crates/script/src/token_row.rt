@@ -3,8 +3,8 @@ ghost use Rattle.token.specs.Tokens.{Fields, type_number};
 ghost use Rattle.token.specs.Kinds.{common_fields};
 ghost use Rattle.script.specs.TokenRows.{TypeFits, WritesToken};
 
-use token::kinds::{CommonToken, KeptSpan};
-use token::token_type::{Span, TokenType};
+use token::{CommonToken, KeptSpan};
+use token::{Span, TokenType};
 
 // A token as its row gives it, by numbers that need not be a token's.
 #[derive(Clone, Copy, PartialEq, Eq, Debug)]

@@ -2,11 +2,11 @@
 use crate::words::*;
 use std::process::Abort;
 use std::test::*;
-use token::kinds::{WordFactory, WordToken};
-use token::token::Token;
-use token_stream::filter::Filter;
-use token_stream::stream::{IntStream, TokenStream};
-use token_stream::table::TokenTable;
+use token::{WordFactory, WordToken};
+use token::Token;
+use token_stream::Filter;
+use token_stream::{IntStream, TokenStream};
+use token_stream::TokenTable;
 
 const FAR: [i32; 3] = [4, 5, i32::MAX];
 
