@@ -1,7 +1,7 @@
-// For each denial the smallest net that meets it, and nets with two faults.
+//! For each denial the smallest net that meets it, and nets with two faults.
 use crate::nets::*;
-use atn_graph::tables::Tables;
-use interval_set::interval::Interval;
+use atn_graph::Tables;
+use interval_set::Interval;
 
 #[test]
 fn a_short_table(rt: HostRuntime) {

@@ -1,8 +1,8 @@
-// The types that edges take.
+//! The types that edges take.
 use crate::nets::*;
-use atn::atn::Atn;
-use atn_graph::tables::Tables;
-use interval_set::interval::Interval;
+use atn::Atn;
+use atn_graph::Tables;
+use interval_set::Interval;
 use std::process::Abort;
 use std::test::Fail;
 

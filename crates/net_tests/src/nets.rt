@@ -1,8 +1,8 @@
-// Nets that the tests use.
-use atn::atn::Atn;
-use atn_graph::tables::{Counts, EdgeRow, RuleRow, StateRow, Tables};
+//! Nets that the tests use.
+use atn::Atn;
+use atn_graph::{Counts, EdgeRow, RuleRow, StateRow, Tables};
 use errors::denial::Denial;
-use interval_set::interval::Interval;
+use interval_set::Interval;
 use std::test::Fail;
 
 pub(crate) fn rule(start: i32, stop: i32) -> RuleRow {
