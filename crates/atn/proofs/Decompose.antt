@@ -2,7 +2,8 @@
 use Rattle.std.proofs.Common.{ℕ, ◌⊎◌, List, [], ◌∷◌, inl, inr}
 use Rattle.atn_graph.specs.Net.{Net}
 use Rattle.atn.specs.Walks.{Walk}
-use Rattle.atn.specs.Reach.{Nullable, StepOver, Reaches, ReachesOver}
+use Rattle.atn.specs.Reach.{Nullable, StepOver, ReachesOver}
+use Rattle.atn.proofs.Reaching.{Reaches}
 
 -- k is reached from s, or from a state of the stack with all above it nullable
 abbrev pub Visited : Net → ℕ → List ℕ → ℕ → Type 0

@@ -1,5 +1,6 @@
 pub mod Growth
 pub mod Some
+pub mod Reaching
 pub mod Noting
 pub mod Following
 pub mod Steps

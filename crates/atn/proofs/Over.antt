@@ -1,7 +1,8 @@
 -- What is reached depends on the states stepped over alone.
 use Rattle.std.proofs.Common.{ℕ, List}
 use Rattle.atn_graph.specs.Net.{Net}
-use Rattle.atn.specs.Reach.{StepOver, ReachesOver, Listed, KnowsNullable, KnowsReachedOver, KnowsReached}
+use Rattle.atn.specs.Reach.{StepOver, ReachesOver, Listed, KnowsNullable, KnowsReachedOver}
+use Rattle.atn.proofs.Reaching.{KnowsReached}
 
 pub reaches_more : {M N : ℕ → Type 0} {n : Net} {s k : ℕ} → ((i : ℕ) → M i → N i) → ReachesOver M n s k → ReachesOver N n s k
 reaches_more f ReachesOver.here = ReachesOver.here

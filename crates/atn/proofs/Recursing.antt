@@ -6,14 +6,20 @@ use Rattle.atn_graph.specs.declared.graph.Graph.{Graph}
 use Rattle.atn_graph.specs.declared.transition.Move.{Move}
 use Rattle.atn_graph.specs.declared.transition.Move.TheVariants.{Along, Call, Token}
 use Rattle.atn_graph.specs.Kinds.{move_of}
-use Rattle.atn_graph.specs.Net.{Net, net, size, edge_at}
+use Rattle.atn_graph.specs.Net.{Net, net, size, state_at, edge_at}
 use Rattle.atn.specs.Walks.{HasEdge, Walk, LeftRecursiveFrom}
-use Rattle.atn.specs.Reach.{Listed, KnowsNullable, KnowsReached, KnowsReachedOver}
-use Rattle.atn.specs.Calls.{calls_by, is_call, calls, Calls}
+use Rattle.atn.specs.Reach.{Listed, KnowsNullable, KnowsReachedOver}
+use Rattle.atn.specs.Among.{Among}
+use Rattle.atn.specs.Calls.{calls_by, is_call, calls}
 use Rattle.atn.proofs.Growth.{elem_at, place_of}
 use Rattle.atn.proofs.Some.{no_edges, any_place, place_any, any_edge}
 use Rattle.atn.proofs.Over.{knows_over}
+use Rattle.atn.proofs.Reaching.{KnowsReached}
 use Rattle.atn.proofs.Decompose.{visited_of_walk, walk_of_reaches}
+
+-- s has a rule edge to t
+abbrev Calls : Net → ℕ → ℕ → Type 0
+Calls n s t = Among (λ e. is_call t e ≡ true) n (state_at n s).first (state_at n s).end
 
 edge_of_calls : (n : Net) (s t : ℕ) → Calls n s t → (f : ℕ) × HasEdge n s t (Call f)
 edge_of_calls n s t h = at (move_of (edge_at n h.number).kind) refl h.holds

@@ -7,7 +7,12 @@ use Rattle.atn_graph.specs.Kinds.{move_of}
 use Rattle.atn_graph.specs.Net.{Net, net, size, Of, state_at, edge_at}
 use Rattle.atn_graph.proofs.Inside.{target_inside, follow_inside}
 use Rattle.atn.proofs.Some.{edge_state}
-use Rattle.atn.specs.Reach.{StepOver, ReachesOver, LeadsByOver, LeadsAmongOver}
+use Rattle.atn.specs.Among.{Among}
+use Rattle.atn.specs.Reach.{StepOver, ReachesOver, LeadsByOver, LeadsOver}
+
+-- one of the edges from number low up to number high leads to k
+abbrev pub LeadsAmongOver : (ℕ → Type 0) → Net → ℕ → ℕ → ℕ → Type 0
+LeadsAmongOver N n low high k = Among (λ e. LeadsOver N e k) n low high
 
 module _ (N : ℕ → Type 0) (n : Net) (s k : ℕ) where
   among_all : (j : ℕ) → Of n s j → (m : Move) → move_of (edge_at n j).kind ≡ m → LeadsByOver N (edge_at n j).target m k → LeadsAmongOver N n (state_at n s).first (state_at n s).end k

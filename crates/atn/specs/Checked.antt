@@ -48,6 +48,9 @@ start_number (Some s) = pos s
 abbrev pub start_number_at : Net → ℕ → ℤ
 start_number_at n r = if nat_lt r (length n.rules) then pos (rule_at n r).start else negsuc 0
 
--- The one with that number, and none exactly past the last; d is what stands past the end of the list.
+-- The one with that number, and none exactly past the last; d is what stands past the end of the
+-- list.
 abbrev pub Picks : {X : Type 0} → List X → X → ℕ → Option X → Type 0
-Picks xs d i r = MatchOption r (length xs ≤ i) (λ x. (i < length xs) × (x ≡ slice_index_or xs i d))
+Picks xs d i r = MatchOption r
+    (length xs ≤ i)
+    (λ x. (i < length xs) × (x ≡ slice_index_or xs i d))

@@ -12,8 +12,8 @@ use Rattle.atn_graph.specs.Rules.{part}
 abbrev pub is_net_type : Net → ℤ → Bool
 is_net_type n x = inside (from_to (pos 1) n.max) x
 
--- An atom takes its type, a range and a set those they hold, a not-set every type of the net but those it holds,
--- a wildcard every type of the net; the other edges take none.
+-- An atom takes its type, a range and a set those they hold, a not-set every type of the net but
+-- those it holds, a wildcard every type of the net; the other edges take none.
 abbrev pub takes : Net → TransitionKind → ℤ → Bool
 takes n Epsilon x = false
 takes n (Range i) x = inside i x
@@ -28,7 +28,9 @@ takes n Precedence x = false
 
 -- the label of edge number j, and none exactly past the last edge
 abbrev pub Labels : Net → ℕ → Option IntervalSet → Type 0
-Labels n j r = MatchOption r (length n.edges ≤ j) (λ s. (j < length n.edges) × ((x : ℤ) → holds s x ≡ takes n (edge_at n j).kind x))
+Labels n j r = MatchOption r
+    (length n.edges ≤ j)
+    (λ s. (j < length n.edges) × ((x : ℤ) → holds s x ≡ takes n (edge_at n j).kind x))
 
 -- one of the edges of state s takes the type x
 pub record TakesAt (n : Net) (s : ℕ) (x : ℤ) : Type 0 where

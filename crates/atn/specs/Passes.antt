@@ -19,20 +19,19 @@ over_by xs t Token = false
 abbrev pub over_listed : List ℕ → Transition → Bool
 over_listed xs e = over_by xs e.target (move_of e.kind)
 
--- one of the edges from number low up to number high does
-abbrev pub OverAmong : Net → List ℕ → ℕ → ℕ → Type 0
-OverAmong n xs low high = Among (λ e. over_listed xs e ≡ true) n low high
-
 -- s is a stop state, or one of its edges does
 abbrev pub Falls : Net → List ℕ → ℕ → Type 0
-Falls n xs s = Stop n s ⊎ OverAmong n xs (state_at n s).first (state_at n s).end
+Falls n xs s =
+    Stop n s ⊎ Among (λ e. over_listed xs e ≡ true) n (state_at n s).first (state_at n s).end
 
 abbrev pub AllNullable : Net → List ℕ → Type 0
 AllNullable n xs = (k : ℕ) → elem k xs ≡ true → Nullable n k
 
--- Nullable states stay nullable states; if nothing is new, the states before upto have nothing to add.
+-- Nullable states stay nullable states; if nothing is new, the states before upto have nothing to
+-- add.
 pub record Pass (n : Net) (upto : ℕ) (before after : List ℕ) : Type 0 where
   pub right : AllNullable n before → AllNullable n after
   pub longer : length before ≤ length after
   pub same : length after ≡ length before → after ≡ before
-  pub done : length after ≡ length before → (s : ℕ) → s < upto → Falls n before s → elem s before ≡ true
+  pub done : length after ≡ length before
+      → (s : ℕ) → s < upto → Falls n before s → elem s before ≡ true

@@ -5,7 +5,6 @@ use Rattle.atn_graph.specs.declared.transition.Move.TheVariants.{Along, Call, To
 use Rattle.atn_graph.specs.declared.transition.Transition.{Transition}
 use Rattle.atn_graph.specs.Kinds.{move_of}
 use Rattle.atn_graph.specs.Net.{Net}
-use Rattle.atn.specs.Among.{Among}
 use Rattle.atn.specs.Walks.{Stop, HasEdge}
 use Rattle.atn.specs.Marks.{elem}
 
@@ -15,7 +14,8 @@ pub data Nullable (n : Net) : ℕ → Type 0 where
   along : {s t : ℕ} → HasEdge n s t Along → Nullable n t → Nullable n s
   over : {s t f : ℕ} → HasEdge n s t (Call f) → Nullable n t → Nullable n f → Nullable n s
 
--- A step leads along an edge, into a called rule, or over a rule edge to a start state that N tells of.
+-- A step leads along an edge, into a called rule, or over a rule edge to a start state that N tells
+-- of.
 pub data StepOver (N : ℕ → Type 0) (n : Net) : ℕ → ℕ → Type 0 where
   along : {s t : ℕ} → HasEdge n s t Along → StepOver N n s t
   into : {s t f : ℕ} → HasEdge n s t (Call f) → StepOver N n s t
@@ -24,13 +24,6 @@ pub data StepOver (N : ℕ → Type 0) (n : Net) : ℕ → ℕ → Type 0 where
 pub data ReachesOver (N : ℕ → Type 0) (n : Net) : ℕ → ℕ → Type 0 where
   here : {s : ℕ} → ReachesOver N n s s
   more : {s t k : ℕ} → StepOver N n s t → ReachesOver N n t k → ReachesOver N n s k
-
--- over the rules that are nullable
-abbrev pub Step : Net → ℕ → ℕ → Type 0
-Step n = StepOver (Nullable n) n
-
-abbrev pub Reaches : Net → ℕ → ℕ → Type 0
-Reaches n = ReachesOver (Nullable n) n
 
 -- k is in the list
 abbrev pub Listed : List ℕ → ℕ → Type 0
@@ -45,28 +38,11 @@ LeadsByOver N t Token k = ⊥
 abbrev pub LeadsOver : (ℕ → Type 0) → Transition → ℕ → Type 0
 LeadsOver N e k = LeadsByOver N e.target (move_of e.kind) k
 
--- one of the edges from number low up to number high leads to k
-abbrev pub LeadsAmongOver : (ℕ → Type 0) → Net → ℕ → ℕ → ℕ → Type 0
-LeadsAmongOver N n low high k = Among (λ e. LeadsOver N e k) n low high
-
--- the same over the rules that are nullable
-abbrev pub LeadsBy : Net → ℕ → Move → ℕ → Type 0
-LeadsBy n = LeadsByOver (Nullable n)
-
-abbrev pub Leads : Net → Transition → ℕ → Type 0
-Leads n = LeadsOver (Nullable n)
-
-abbrev pub LeadsAmong : Net → ℕ → ℕ → ℕ → Type 0
-LeadsAmong n = LeadsAmongOver (Nullable n) n
-
 -- the states of the list are exactly the nullable ones
 abbrev pub KnowsNullable : Net → List ℕ → Type 0
-KnowsNullable n xs = (k : ℕ) → ((elem k xs ≡ true → Nullable n k) × (Nullable n k → elem k xs ≡ true))
+KnowsNullable n xs = (k : ℕ) → (Listed xs k → Nullable n k) × (Nullable n k → Listed xs k)
 
 -- the states of the list are exactly those that s reaches
 abbrev pub KnowsReachedOver : (ℕ → Type 0) → Net → ℕ → List ℕ → Type 0
-KnowsReachedOver N n s xs = (k : ℕ) → ((Listed xs k → ReachesOver N n s k) × (ReachesOver N n s k → Listed xs k))
-
--- exactly those that it reaches over the rules that are nullable
-abbrev pub KnowsReached : Net → ℕ → List ℕ → Type 0
-KnowsReached n = KnowsReachedOver (Nullable n) n
+KnowsReachedOver N n s xs =
+    (k : ℕ) → (Listed xs k → ReachesOver N n s k) × (ReachesOver N n s k → Listed xs k)

@@ -15,12 +15,14 @@ pub record HasEdge (n : Net) (s t : ℕ) (m : Move) : Type 0 where
   pub leads : (edge_at n number).target ≡ t
   pub moves : move_of (edge_at n number).kind ≡ m
 
--- A walk from the state s on the stack p to the state k on the stack q. A rule edge puts its follow state on the stack;
--- a stop state leads to the top of the stack, taken off.
+-- A walk from the state s on the stack p to the state k on the stack q. A rule edge puts its follow
+-- state on the stack; a stop state leads to the top of the stack, taken off.
 pub data Walk (n : Net) : ℕ → List ℕ → ℕ → List ℕ → Type 0 where
   here : {s : ℕ} {p : List ℕ} → Walk n s p s p
-  along : {s t k : ℕ} {p q : List ℕ} → HasEdge n s t Along → Walk n t p k q → Walk n s p k q
-  call : {s t f k : ℕ} {p q : List ℕ} → HasEdge n s t (Call f) → Walk n t (f ∷ p) k q → Walk n s p k q
+  along : {s t k : ℕ} {p q : List ℕ}
+      → HasEdge n s t Along → Walk n t p k q → Walk n s p k q
+  call : {s t f k : ℕ} {p q : List ℕ}
+      → HasEdge n s t (Call f) → Walk n t (f ∷ p) k q → Walk n s p k q
   back : {s f k : ℕ} {p q : List ℕ} → Stop n s → Walk n f p k q → Walk n s (f ∷ p) k q
 
 -- A walk from s on an empty stack reaches a rule edge to s.

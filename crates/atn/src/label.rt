@@ -1,4 +1,4 @@
-// The labels of edges: the token types that an edge takes.
+//! The labels of edges: the token types that an edge takes.
 ghost use Rattle.std.specs.Prelude.{◌≡◌, true, ℤ, ◌⊎◌, Decides};
 ghost use Rattle.interval_set.specs.Intervals.{inside, has};
 ghost use Rattle.interval_set.specs.Members.{holds};
@@ -8,8 +8,7 @@ ghost use Rattle.atn.specs.Labels.{is_net_type, takes, Labels, TakesAt};
 
 use crate::atn::Atn;
 use atn_graph::TransitionKind;
-use interval_set::Interval;
-use interval_set::IntervalSet;
+use interval_set::{Interval, IntervalSet};
 
 impl Atn {
     // The numbers of one interval that fits the net, or none.
@@ -69,7 +68,7 @@ impl Atn {
         }
     }
 
-    // The types that the edge number j takes, None past the last edge.
+    /// The types that edge number j takes, None past the last edge.
     pub fn label(&self, j: usize) -> Option<IntervalSet>
         ensures { Labels (net_of self.now) j result }
     {
@@ -77,9 +76,10 @@ impl Atn {
         Some(self.kind_label(edge.kind))
     }
 
-    // Adds the types that the edges of the state number s take, none past the last.
+    /// Adds the types that the edges of state number s take, none past the last state.
     pub fn add_labels(&self, s: usize, set: &mut IntervalSet)
-        ensures { (x : ℤ) → Decides (holds set.new x) ((holds set.old x ≡ true) ⊎ TakesAt (net_of self.now) s x) }
+        ensures { (x : ℤ)
+            → Decides (holds set.new x) ((holds set.old x ≡ true) ⊎ TakesAt (net_of self.now) s x) }
     {
         for e in self.edges(s) {
             set.add_set(&self.kind_label(e.kind));

@@ -1,4 +1,4 @@
-// Left recursion.
+//! Left recursion.
 ghost use Rattle.std.specs.Prelude.{◌≡◌, Decides};
 ghost use Rattle.std.specs.List.{list_any};
 ghost use Rattle.atn_graph.specs.Net.{net};
@@ -7,9 +7,8 @@ ghost use Rattle.atn.specs.Found.{found};
 ghost use Rattle.atn.specs.Reach.{KnowsNullable};
 ghost use Rattle.atn.specs.Walks.{LeftRecursiveFrom, HasLeftRecursion};
 
-use crate::nullables::NullableStates;
-use atn_graph::Graph;
-use atn_graph::{Move, Transition};
+use crate::nullable::NullableStates;
+use atn_graph::{Graph, Move, Transition};
 
 // Whether the edge calls the rule that starts at t.
 fn is_call(e: &Transition, t: usize) -> bool
@@ -21,6 +20,7 @@ fn is_call(e: &Transition, t: usize) -> bool
     }
 }
 
+// Whether one of the edges calls the rule that starts at t.
 fn any_calls(edges: &[Transition], t: usize) -> bool
     ensures { result ≡ list_any (is_call t) edges.now }
 {
@@ -34,24 +34,21 @@ fn some_call(g: &Graph, states: &[usize], t: usize) -> bool
     states.iter().any(|s| any_calls(g.edges(*s), t))
 }
 
-impl NullableStates<'_> {
-    // Whether a walk from the start state s on an empty stack reaches a rule edge to s.
-    fn is_recursive(&self, s: usize) -> bool
-        requires { KnowsNullable (net self.now.graph.now.lists) (found self.now.states) }
-        ensures { Decides result (LeftRecursiveFrom (net self.now.graph.now.lists) s) }
-    {
-        some_call(self.graph, self.reach(s).states(), s)
-    }
+// Whether a walk from the start state s on an empty stack reaches a rule edge to s.
+fn is_recursive(nullables: &NullableStates<'_>, s: usize) -> bool
+    requires { KnowsNullable (net nullables.now.graph.now.lists) (found nullables.now.states) }
+    ensures { Decides result (LeftRecursiveFrom (net nullables.now.graph.now.lists) s) }
+{
+    some_call(nullables.graph, nullables.reach(s).states(), s)
 }
 
-// Whether a rule of the net is left-recursive.
+/// Whether a rule of the graph is left-recursive.
 pub(crate) fn is_left_recursive(g: &Graph) -> bool
     ensures { Decides result (HasLeftRecursion (net g.now.lists)) }
 {
     let nullables = NullableStates::of(g);
-    // kept as a loop: what `is_recursive` asks of the nullable states is no clause of a closure
     for rule in g.lists.rules.iter() {
-        if nullables.is_recursive(rule.start) {
+        if is_recursive(&nullables, rule.start) {
             return true;
         }
     }

@@ -47,8 +47,8 @@ transition_number (NotSet f c) = 8
 transition_number Wildcard = 9
 transition_number Precedence = 10
 
--- Epsilon, predicate, action and precedence edges lead to their target, a rule edge calls, the others
--- take a token.
+-- Epsilon, predicate, action and precedence edges lead to their target, a rule edge calls, the
+-- others take a token.
 abbrev pub move_of : TransitionKind → Move
 move_of Epsilon = Along
 move_of (Range i) = Token

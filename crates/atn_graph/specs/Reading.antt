@@ -22,4 +22,5 @@ KindRead row k = (row.kind ≡ pos (transition_number k)) × Columns row k
 -- the states of the first count rows, each of whose edges follow those of the one before
 abbrev pub StatesRead : List StateRow → ℕ → List AtnState → Type 0
 StatesRead rows count ss = (s : ℕ) → s < count
-    → WritesState (slice_index_or rows s no_state_row) (end_before ss s) (slice_index_or ss s no_state)
+    → WritesState
+      (slice_index_or rows s no_state_row) (end_before ss s) (slice_index_or ss s no_state)

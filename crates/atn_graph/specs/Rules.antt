@@ -22,7 +22,8 @@ range_fits n i = int_le (pos 1) i.a && (int_le i.a i.b && int_le i.b n.max)
 
 -- the interval is just EOF
 abbrev pub eof_only : Interval → Bool
-eof_only i = inside (from_to (negsuc 0) (negsuc 0)) i.a && inside (from_to (negsuc 0) (negsuc 0)) i.b
+eof_only i =
+    inside (from_to (negsuc 0) (negsuc 0)) i.a && inside (from_to (negsuc 0) (negsuc 0)) i.b
 
 abbrev pub interval_fits : Net → Interval → Bool
 interval_fits n i = eof_only i || range_fits n i
@@ -37,10 +38,12 @@ part n first count = take count (drop first n.intervals)
 -- one interval or more, all there, each a range or just EOF
 abbrev pub set_fits : Net → ℕ → ℕ → Bool
 set_fits n first count =
-    nat_le 1 count && (nat_le (first + count) (length n.intervals) && all_fit n (part n first count))
+    nat_le 1 count
+    && (nat_le (first + count) (length n.intervals) && all_fit n (part n first count))
 
--- An edge of the state s that leads to state number t. A rule edge is its state's only edge, leads to
--- the named rule's start, and goes on in its own rule; any other edge leads to a state of its own rule.
+-- An edge of the state s that leads to state number t. A rule edge is its state's only edge, leads
+-- to the named rule's start, and goes on in its own rule; any other edge leads to a state of its own
+-- rule.
 abbrev pub kind_fits : Net → AtnState → ℕ → TransitionKind → Bool
 kind_fits n s t Epsilon = in_rule n t s.rule
 kind_fits n s t (Range i) = in_rule n t s.rule && range_fits n i
@@ -76,8 +79,8 @@ pub record RuleFits (n : Net) (r : ℕ) : Type 0 where
   pub start : in_rule n (rule_at n r).start r ≡ true
   pub stop : in_rule n (rule_at n r).stop r ≡ true
 
--- A state lies in a rule of the net. It is of kind rule start, or rule stop, exactly if it is its rule's
--- start, or stop, and it has no edges exactly if it is a stop state.
+-- A state lies in a rule of the net. It is of kind rule start, or rule stop, exactly if it is its
+-- rule's start, or stop, and it has no edges exactly if it is a stop state.
 pub record PlaceFits (n : Net) (s : ℕ) : Type 0 where
   pub rule : (state_at n s).rule < length n.rules
   pub start : is_start (state_at n s).kind ≡ (s == (rule_at n (state_at n s).rule).start)
@@ -89,8 +92,8 @@ pub record StateFits (n : Net) (s : ℕ) : Type 0 where
   pub place : PlaceFits n s
   pub edges : (j : ℕ) → Of n s j → edge_fits n s (edge_at n j) ≡ true
 
--- The net keeps every rule but for left recursion: its rules and states fit, and the edges of the states
--- use up all edges.
+-- The net keeps every rule but for left recursion: its rules and states fit, and the edges of the
+-- states use up all edges.
 pub record IsSoundNet (n : Net) : Type 0 where
   pub rules : (r : ℕ) → r < length n.rules → RuleFits n r
   pub states : (s : ℕ) → s < size n → StateFits n s

@@ -56,8 +56,8 @@ pub record WritesState (row : StateRow) (before : ℕ) (s : AtnState) : Type 0 w
   pub begins : s.first ≡ before
   pub rises : s.first ≤ s.end
 
--- The tables t write the net n: as many rows as the counts say, each with its numbers; the edges of the
--- states follow one another.
+-- The tables t write the net n: as many rows as the counts say, each with its numbers; the edges of
+-- the states follow one another.
 pub record WritesNet (t : Rows) (n : Net) : Type 0 where
   pub max : n.max ≡ t.max
   pub rule_count : pos (length n.rules) ≡ t.counts.rules

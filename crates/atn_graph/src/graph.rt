@@ -26,8 +26,8 @@ pub struct Graph {
 }
 
 impl Graph {
-    /// The graph that the tables write. Denied with the first that fits of `ShortTable` (a table has
-    /// fewer rows than its count), `OutsideLimits` (a count or the largest token type) and
+    /// The graph that the tables write. Denied with the first that fits of `ShortTable` (a table
+    /// has fewer rows than its count), `OutsideLimits` (a count or the largest token type) and
     /// `BrokenRule` (the tables write no net that keeps the rules).
     pub fn check(t: &Tables<'_>) -> Result<Graph, Denial>
         ensures verdict { DeniesFirst (TableFault (rows t.now)) result }

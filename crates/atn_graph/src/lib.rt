@@ -1,6 +1,6 @@
 #![tactic(auto)]
-//! The graph of a net: the tables that an owner writes, what they write down, and the rules of a net
-//! but for left recursion.
+//! The graph of a net: the tables that an owner writes, what they write down, and the rules of a
+//! net but for left recursion.
 
 mod atn_state;
 mod graph;

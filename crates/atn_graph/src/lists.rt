@@ -19,8 +19,8 @@ pub struct Rule {
     pub stop: usize,
 }
 
-/// The rows of a net with their numbers read, kinds by their names and indexes as indexes. That they
-/// keep the rules of a net is not said. They are about 90 KB large: hand them on by reference.
+/// The rows of a net with their numbers read, kinds by their names and indexes as indexes. That
+/// they keep the rules of a net is not said. They are about 90 KB large: hand them on by reference.
 #[derive(Drop)]
 pub struct Lists {
     pub max_token_type: i32,

@@ -35,8 +35,8 @@ pub struct Counts {
     pub intervals: i32,
 }
 
-/// The tables of a net, with a largest token type of 1 to 255. A table may be longer than its count:
-/// the rows past the count are not looked at. One that is shorter is denied by the check.
+/// The tables of a net, with a largest token type of 1 to 255. A table may be longer than its
+/// count: the rows past the count are not looked at. One that is shorter is denied by the check.
 #[derive(Clone, Copy)]
 pub struct Tables<'a> {
     pub max_token_type: i32,

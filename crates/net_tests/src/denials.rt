@@ -1,4 +1,4 @@
-// For each denial the smallest net that meets it, and nets with two faults.
+//! For each denial the smallest net that meets it, and nets with two faults.
 use crate::nets::*;
 use atn_graph::Tables;
 use interval_set::Interval;

@@ -1,6 +1,6 @@
-// The types that edges take.
+//! The types that edges take.
 use crate::nets::*;
-use atn::atn::Atn;
+use atn::Atn;
 use atn_graph::Tables;
 use interval_set::Interval;
 use std::process::Abort;
@@ -49,7 +49,8 @@ fn each_kind_has_its_label(rt: HostRuntime) -> Result<(), Fail> {
     Ok(())
 }
 
-// Atom 1 and not-set {1} lead to one state: the crate that this is modelled on drops the later edge.
+// Atom 1 and not-set {1} lead to one state: the crate that this is modelled on drops the later
+// edge.
 #[test]
 fn every_edge_counts(rt: HostRuntime) -> Result<(), Fail> {
     let net = Atn::check(&Tables {
@@ -65,7 +66,8 @@ fn every_edge_counts(rt: HostRuntime) -> Result<(), Fail> {
     has(&rt, &net, 1, &[2])
 }
 
-// The intervals 5 7 9 5..10 1 3 1..9 hold 1 to 10: the crate loses 10, so that its not-set takes it.
+// The intervals 5 7 9 5..10 1 3 1..9 hold 1 to 10: the crate loses 10, so that its not-set takes
+// it.
 #[test]
 fn a_not_set_of_overlapping_intervals(rt: HostRuntime) -> Result<(), Fail> {
     let net = Atn::check(&Tables {

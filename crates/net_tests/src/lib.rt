@@ -1,5 +1,5 @@
-// Examples of sets, nets and denials.
 #![tactic(auto)]
+//! Examples of sets, nets, labels and denials.
 
 #[cfg(test)]
 mod denials;

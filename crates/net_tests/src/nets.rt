@@ -1,5 +1,5 @@
-// Nets that the tests use.
-use atn::atn::Atn;
+//! Nets that the tests use.
+use atn::Atn;
 use atn_graph::{Counts, EdgeRow, RuleRow, StateRow, Tables};
 use errors::denial::Denial;
 use interval_set::Interval;

@@ -1,7 +1,7 @@
-// Sets of numbers, on the inputs on which the crate that this is modelled on goes wrong, and at the limits.
+//! Sets of numbers, on the inputs on which the crate that this is modelled on goes wrong, and at
+//! the limits.
 use errors::denial::Denial;
-use interval_set::Interval;
-use interval_set::IntervalSet;
+use interval_set::{Interval, IntervalSet};
 use std::process::Abort;
 use std::test::Fail;
 

@@ -8,10 +8,11 @@ use Rattle.atn_graph.specs.Net.{Net, net, size, edges_of}
 use Rattle.atn.specs.declared.atn.Atn.{Atn}
 use Rattle.atn.specs.Labels.{takes}
 use Rattle.atn.specs.Marks.{elem}
-use Rattle.atn.specs.Reach.{Listed, KnowsReached}
+use Rattle.atn.specs.Reach.{Listed}
 use Rattle.atn.proofs.Growth.{elem_at, place_of}
 use Rattle.atn.proofs.Labelling.{decides_takes}
 use Rattle.atn.proofs.Over.{knows_over}
+use Rattle.atn.proofs.Reaching.{KnowsReached}
 use Rattle.atn.proofs.Some.{any_place, place_any}
 use Rattle.ll1_analyzer.specs.Sets.{Types, CanEnd}
 use Rattle.ll1_analyzer.proofs.Ends.{ends_of_reached, reached_of_ends, nullable_of_stop, stop_of_nullable, takes_inside}

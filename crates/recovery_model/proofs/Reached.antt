@@ -11,11 +11,11 @@ use Rattle.atn_graph.proofs.Inside.{few_states, target_inside, follow_inside}
 use Rattle.atn_graph.proofs.StateEdges.{run_rises}
 use Rattle.atn.specs.Marks.{Grown}
 use Rattle.atn.specs.Found.{with_state}
-use Rattle.atn.specs.Reach.{StepOver, LeadsByOver, LeadsOver, LeadsAmongOver, KnowsReachedOver}
+use Rattle.atn.specs.Reach.{StepOver, LeadsByOver, LeadsOver, KnowsReachedOver}
 use Rattle.atn.proofs.Growth.{grown_none, grown_like, grown_both}
 use Rattle.atn.proofs.Some.{among_more, among_last, edge_state}
 use Rattle.atn.proofs.Following.{along_with, call_with, both_with}
-use Rattle.atn.proofs.Steps.{step_leads, leads_step}
+use Rattle.atn.proofs.Steps.{LeadsAmongOver, step_leads, leads_step}
 use Rattle.atn.proofs.Searching.{Search, search_start, search_more, search_end}
 use Rattle.recovery_model.proofs.Rooms.{Room, room_none, room_with, room_few}
 

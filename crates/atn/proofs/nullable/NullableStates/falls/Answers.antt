@@ -5,7 +5,7 @@ use Rattle.atn_graph.specs.Net.{net, edges_of}
 use Rattle.atn.specs.Found.{found}
 use Rattle.atn.specs.Passes.{over_listed}
 use Rattle.atn.proofs.Some.{any_edge}
-use Rattle.atn.proofs.nullables.NullableStates.falls.Goals as goal
+use Rattle.atn.proofs.nullable.NullableStates.falls.Goals as goal
 
 pub returns-else-is_stop : goal.returns-else-is_stop
 returns-else-is_stop c =

@@ -3,7 +3,7 @@ use Rattle.std.proofs.lemmas.Bool.{both_ways}
 use Rattle.atn.specs.Found.{found}
 use Rattle.atn.specs.Reach.{Listed}
 use Rattle.atn.proofs.Following.{along_with, call_with, both_with}
-use Rattle.atn.proofs.nullables.NullableStates.follow.Goals as goal
+use Rattle.atn.proofs.nullable.NullableStates.follow.Goals as goal
 
 pub returns-in-Along : goal.returns-in-Along
 returns-in-Along c = along_with (Listed (found c.args.self.now.states)) c.args.e.now _ _ c.in-Along.ensures c.note.ensures

@@ -3,7 +3,7 @@ use Rattle.atn_graph.specs.Net.{net, size}
 use Rattle.atn.specs.Found.{found}
 use Rattle.atn.specs.Passes.{Pass}
 use Rattle.atn.proofs.Passing.{pass_end}
-use Rattle.atn.proofs.nullables.NullableStates.of.Goals as goal
+use Rattle.atn.proofs.nullable.NullableStates.of.Goals as goal
 
 pub returns-then-len-before-clause-known : goal.returns-then-len-before-clause-known
 returns-then-len-before-clause-known c =

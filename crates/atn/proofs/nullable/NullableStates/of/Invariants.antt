@@ -2,7 +2,7 @@ use Rattle.std.proofs.Common.{◌≡◌, ◌-◌, length}
 use Rattle.atn_graph.specs.Net.{net}
 use Rattle.atn.specs.Found.{found}
 use Rattle.atn.specs.Passes.{AllNullable}
-use Rattle.atn.proofs.nullables.NullableStates.of.Given as goal
+use Rattle.atn.proofs.nullable.NullableStates.of.Given as goal
 
 abbrev pub invariant-loop-nullables : goal.invariant-loop-nullables
 invariant-loop-nullables l = (l.nullables.graph.now ≡ l.fn.graph) × AllNullable (net l.fn.graph.lists) (found l.nullables.states)

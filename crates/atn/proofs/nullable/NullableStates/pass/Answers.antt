@@ -4,8 +4,8 @@ use Rattle.atn_graph.specs.Net.{net}
 use Rattle.atn.specs.Found.{found}
 use Rattle.atn.specs.Passes.{Falls, Pass}
 use Rattle.atn.proofs.Passing.{pass_skip, pass_note}
-use Rattle.atn.proofs.nullables.NullableStates.pass.Goals as goal
-use Rattle.atn.proofs.nullables.NullableStates.pass.Goals.{then-falls, else-falls}
+use Rattle.atn.proofs.nullable.NullableStates.pass.Goals as goal
+use Rattle.atn.proofs.nullable.NullableStates.pass.Goals.{then-falls, else-falls}
 
 pub loop-s-preserved : goal.loop-s-preserved
 loop-s-preserved c =

@@ -4,7 +4,7 @@ use Rattle.atn.specs.Marks.{Grown}
 use Rattle.atn.specs.Found.{found}
 use Rattle.atn.specs.Reach.{StepOver, Listed}
 use Rattle.atn.proofs.Searching.{search_start, search_more, search_end}
-use Rattle.atn.proofs.nullables.NullableStates.reach.Goals as goal
+use Rattle.atn.proofs.nullable.NullableStates.reach.Goals as goal
 
 pub loop-k-init : goal.loop-k-init
 loop-k-init c = search_start _ c.args.self.now.graph.now c.args.s _ _ c.new-visits.ensures.empty c.note.ensures (omega (arith, c.if-s-len.false, c.len.ensures.len))

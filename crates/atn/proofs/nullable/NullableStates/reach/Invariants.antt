@@ -2,7 +2,7 @@ use Rattle.std.proofs.Common.{◌-◌}
 use Rattle.atn.specs.Found.{found}
 use Rattle.atn.specs.Reach.{Listed}
 use Rattle.atn.proofs.Searching.{Search}
-use Rattle.atn.proofs.nullables.NullableStates.reach.Given as goal
+use Rattle.atn.proofs.nullable.NullableStates.reach.Given as goal
 
 abbrev pub invariant-loop-k : goal.invariant-loop-k
 invariant-loop-k l = Search (Listed (found l.self.states)) l.self.graph.now l.s l.next (found l.visits)

@@ -3,11 +3,11 @@ use Rattle.atn_graph.specs.Net.{net, state_at}
 use Rattle.atn_graph.proofs.StateEdges.{run_rises, edges_length}
 use Rattle.atn.specs.Marks.{Grown}
 use Rattle.atn.specs.Found.{found}
-use Rattle.atn.specs.Reach.{Listed, LeadsOver, LeadsAmongOver}
+use Rattle.atn.specs.Reach.{Listed, LeadsOver}
 use Rattle.atn.proofs.Growth.{grown_like, grown_both}
 use Rattle.atn.proofs.Some.{among_more, among_last, item_is, item_target, item_follow}
-use Rattle.atn.proofs.Steps.{step_leads, leads_step}
-use Rattle.atn.proofs.nullables.NullableStates.visit.Goals as goal
+use Rattle.atn.proofs.Steps.{LeadsAmongOver, step_leads, leads_step}
+use Rattle.atn.proofs.nullable.NullableStates.visit.Goals as goal
 
 pub follow-requires-clause-target : goal.follow-requires-clause-target
 follow-requires-clause-target c = item_target c.args.self.now.graph.now c.args.s _ c.edges-e-items.ensures c.loop-e.e-index c.loop-e-test.true
