@@ -1,7 +1,7 @@
 // The limits of a leaf.
 use leaves::{Leaf, LeafKind};
 use std::test::*;
-use token::token_type::TokenType;
+use token::TokenType;
 
 // A leaf's depth, rule, token index, line and column.
 type Fields = (u8, u8, Option<u16>, u32, u32);

@@ -5,7 +5,7 @@ use leaves::{Leaf, LeafKind};
 use leaves::LeafList;
 use leaves::LeafWriter;
 use std::test::*;
-use token::token_type::TokenType;
+use token::TokenType;
 
 const FIRST: &[u8] = b"       1       1       0      -1      -1       0       0\n";
 

@@ -3,7 +3,7 @@ use interval_set::set::IntervalSet;
 use leaves::{Leaf, LeafKind};
 use reports::{Report, ReportKind};
 use std::test::*;
-use token::token_type::TokenType;
+use token::TokenType;
 
 // The first leaf that there may be, at a column.
 pub(crate) fn leaf(column: u32) -> Result<Leaf, Fail> {

@@ -2,7 +2,7 @@
 use interval_set::set::IntervalSet;
 use reports::{Report, ReportKind};
 use std::test::*;
-use token::token_type::TokenType;
+use token::TokenType;
 
 fn of(expected: &IntervalSet) -> (u16, TokenType) {
     let r = Report::new(ReportKind::MissingToken, None, (7, 8), expected);

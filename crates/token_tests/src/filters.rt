@@ -2,11 +2,11 @@
 use crate::words::*;
 use std::process::Abort;
 use std::test::*;
-use token::kinds::WordFactory;
-use token::token::Token;
-use token_stream::filter::Filter;
-use token_stream::stream::{IntStream, TokenStream};
-use token_stream::table::TokenTable;
+use token::WordFactory;
+use token::Token;
+use token_stream::Filter;
+use token_stream::{IntStream, TokenStream};
+use token_stream::TokenTable;
 
 #[test]
 fn hidden_at_the_start(rt: HostRuntime) -> Result<(), Fail> {

@@ -1,9 +1,9 @@
 // What the factories make.
 use crate::words::*;
 use std::test::*;
-use token::kinds::{LaneFactory, WordFactory};
-use token::token::{Token, TokenFactory};
-use token::token_type::{Span, TokenType};
+use token::{LaneFactory, WordFactory};
+use token::{Token, TokenFactory};
+use token::{Span, TokenType};
 
 #[test]
 fn a_word(rt: HostRuntime) {

@@ -1,11 +1,11 @@
 // A table as a stream.
 use crate::words::*;
 use std::test::*;
-use token::kinds::{LaneFactory, WordFactory};
-use token::token::{Token, TokenFactory};
-use token::token_type::TokenType;
-use token_stream::stream::{IntStream, TokenStream};
-use token_stream::table::TokenTable;
+use token::{LaneFactory, WordFactory};
+use token::{Token, TokenFactory};
+use token::TokenType;
+use token_stream::{IntStream, TokenStream};
+use token_stream::TokenTable;
 
 #[test]
 fn what_is_ahead(rt: HostRuntime) -> Result<(), Fail> {

@@ -2,10 +2,10 @@
 use crate::words::*;
 use errors::denial::Denial;
 use std::test::*;
-use token::kinds::{LaneFactory, LaneToken, WordToken};
-use token::token::Token;
-use token::token_type::TokenType;
-use token_stream::table::TokenTable;
+use token::{LaneFactory, LaneToken, WordToken};
+use token::Token;
+use token::TokenType;
+use token_stream::TokenTable;
 
 const FAULTY: Result<(), u8> = Err(6);
 

@@ -1,10 +1,10 @@
 // Tokens that the tests use, and what a stream of them shows.
 use std::process::Abort;
 use std::test::*;
-use token::kinds::WordToken;
-use token::token::Token;
-use token::token_type::{Span, TokenType};
-use token_stream::stream::TokenStream;
+use token::WordToken;
+use token::Token;
+use token::{Span, TokenType};
+use token_stream::TokenStream;
 
 pub(crate) const NOWHERE: Span = Span {
     start: -1,
