@@ -73,7 +73,7 @@ module _ (n : Net) where
   }
 
   still : (v : View) → Coherent n v → Onward v.shown v.shown
-  still v c = onward_by [] v.shown v.shown refl c.shows.ends.some
+  still v c = onward_by [] v.shown v.shown refl c.shows.ends.non_empty
 
   raised_few : (os : List OpenRule) → length (raised os) ≡ length os
   raised_few [] = refl

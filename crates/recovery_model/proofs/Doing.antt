@@ -29,7 +29,7 @@ module _ (v : View) (ends : EndsInEof v.shown) (numbered : Numbered v.shown) whe
   taken : (u : View) → Cleared v u → Matches v (take_token u)
   taken u c =
       let still = onward_ends v.shown u.shown ends c.onward in
-      inl (cleared_on v u (pass Taken u) c (same_pass Taken u still), of_the_tape (current u) (onward_numbered v.shown u.shown numbered c.onward 0 still.some))
+      inl (cleared_on v u (pass Taken u) c (same_pass Taken u still), of_the_tape (current u) (onward_numbered v.shown u.shown numbered c.onward 0 still.non_empty))
 
   cleared_struck : Cleared v (single_token_deletion v)
   cleared_struck = let u = begin_error_condition v in cleared_ended v (pass Deleted u) (same_on v u _ (same_begun v ends) (same_pass Deleted u ends))

@@ -15,7 +15,7 @@ shtoken_index tape shown s k l i is =
     let named = s.named k l in
     let same : Some i ≡ Some (token_index (token_at shown k)) = sym is ∙ named.index in
     let own_is : i ≡ token_index (token_at shown k) = cc in
-    omega (arith, own_is, named.inside, s.sound.few)
+    omega (arith, own_is, named.inside, s.sound.bounded)
 
 pub shown_fit : (tape shown : List Fields) → Shows tape shown → ShownFits shown
 shown_fit tape shown s k l kind depth rule rest = record {

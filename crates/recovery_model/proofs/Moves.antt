@@ -24,7 +24,7 @@ pub record Cleared (v u : View) : Type 0 where
   pub onward : Onward v.shown u.shown
 
 still : (ts : List Fields) → EndsInEof ts → Onward ts ts
-still ts ends = onward_by [] ts ts refl ends.some
+still ts ends = onward_by [] ts ts refl ends.non_empty
 
 pub same_self : (v : View) → EndsInEof v.shown → Same v v
 same_self v ends = record { standing = refl; last = refl; marks = refl; onward = still v.shown ends }

@@ -72,7 +72,7 @@ module _ (v : View) (ends_in : EndsInEof v.shown) (numbered : Numbered v.shown) 
   answers_so : (fit : Bool) → Answers v (matched fit n w v)
   answers_so fit =
       by_match (Answers v) fit n w v
-      (λ _. ended_so _ (is_missing_symbol (Token (current v))) (in_error_recovery_mode v) (of_the_tape (current v) (numbered 0 ends_in.some)))
+      (λ _. ended_so _ (is_missing_symbol (Token (current v))) (in_error_recovery_mode v) (of_the_tape (current v) (numbered 0 ends_in.non_empty)))
       (λ _. ended_so _ (is_missing_symbol (Token (current (single_token_deletion v)))) (in_error_recovery_mode v) (of_the_tape (current (single_token_deletion v)) struck_named))
       (λ _. refl)
       refl

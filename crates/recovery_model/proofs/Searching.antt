@@ -45,10 +45,10 @@ longer types t us rest e s = record { passed = t ∷ s.passed; parts = ap (λ xs
     passes (suc k) l = s.passes k (omega arith)
 
 pub stops_before : (types : ℤ → Bool) (ts : List Fields) → EndsInEof ts → Stops types ts (passed_many (before types ts) ts)
-stops_before types [] ends = absurd (omega (arith, ends.some))
+stops_before types [] ends = absurd (omega (arith, ends.non_empty))
 stops_before types (t ∷ us) ends =
     cond_both (fits types t) 0 (suc (before types us)) (λ k. Stops types (t ∷ us) (passed_many k (t ∷ us)))
-    (λ e. record { passed = []; parts = refl; some = ends.some; stops = e; passes = λ k l. absurd (omega arith) })
+    (λ e. record { passed = []; parts = refl; some = ends.non_empty; stops = e; passes = λ k l. absurd (omega arith) })
     (λ e. let same : passed (t ∷ us) ≡ us = cond-false (is_eof t.typ) (t ∷ us) us (or_parts (is_eof t.typ) (types (type_number t.typ)) e).0 in
     let tail : EndsInEof us = subst EndsInEof same (onward_ends (t ∷ us) (passed (t ∷ us)) ends (passed_onward (t ∷ us) ends)) in
     subst (λ xs. Stops types (t ∷ us) (passed_many (before types us) xs)) (sym same) (longer types t us _ e (stops_before types us tail)))

@@ -24,7 +24,7 @@ Rises ts = (j k : ℕ) → j < k → k < length ts → token_index (token_at ts 
 
 ends_after : (d ts : List Fields) → EndsInEof (d ++ ts) → 0 < length ts → EndsInEof ts
 ends_after d ts ends some = record {
-  some = some;
+  non_empty = some;
   last = λ k e. ap (λ t. is_eof t.typ) (sym (get_or-append-add d ts k no_token)) ∙ ends.last (length d + k) (omega (arith, e, length-append d ts));
   before = λ k l. ap (λ t. is_eof t.typ) (sym (get_or-append-add d ts k no_token)) ∙ ends.before (length d + k) (omega (arith, l, length-append d ts));
 }
@@ -34,9 +34,9 @@ onward_ends old new ends o = ends_after o.dropped new (subst EndsInEof o.parts e
 
 -- EOF is never dropped, so some token is left
 pub passed_onward : (ts : List Fields) → EndsInEof ts → Onward ts (passed ts)
-passed_onward [] ends = absurd (omega (arith, ends.some))
-passed_onward (t ∷ []) ends = cond_both (is_eof t.typ) (t ∷ []) [] (Onward (t ∷ [])) (λ e. onward_by [] _ _ refl ends.some) (λ e. absurd (both_ways _ e (ends.last 0 refl)))
-passed_onward (t ∷ u ∷ us) ends = cond_both (is_eof t.typ) (t ∷ u ∷ us) (u ∷ us) (Onward (t ∷ u ∷ us)) (λ e. onward_by [] _ _ refl ends.some) (λ e. onward_by (t ∷ []) _ _ refl (omega arith))
+passed_onward [] ends = absurd (omega (arith, ends.non_empty))
+passed_onward (t ∷ []) ends = cond_both (is_eof t.typ) (t ∷ []) [] (Onward (t ∷ [])) (λ e. onward_by [] _ _ refl ends.non_empty) (λ e. absurd (both_ways _ e (ends.last 0 refl)))
+passed_onward (t ∷ u ∷ us) ends = cond_both (is_eof t.typ) (t ∷ u ∷ us) (u ∷ us) (Onward (t ∷ u ∷ us)) (λ e. onward_by [] _ _ refl ends.non_empty) (λ e. onward_by (t ∷ []) _ _ refl (omega arith))
 
 -- which tokens are shown from a place on
 from_all : (p : ℕ) (ts : List Fields) → ((k : ℕ) → k < length ts → p ≤ token_index (token_at ts k)) → shown_from p ts ≡ ts
@@ -86,7 +86,7 @@ onward_rises old new rises o j k less inside =
 
 -- a token that is not EOF is passed, and another place is reached
 pub passed_moves : (ts : List Fields) → EndsInEof ts → Rises ts → is_eof (token_at ts 0).typ ≡ false → token_index (token_at (passed ts) 0) ≡ token_index (token_at ts 0) → ⊥
-passed_moves [] ends rises e same = omega (arith, ends.some)
+passed_moves [] ends rises e same = omega (arith, ends.non_empty)
 passed_moves (t ∷ []) ends rises e same = both_ways _ e (ends.last 0 refl)
 passed_moves (t ∷ u ∷ us) ends rises e same =
     let other : token_index u ≡ token_index t = ap (λ xs. token_index (token_at xs 0)) (sym (cond-false (is_eof t.typ) (t ∷ u ∷ us) (u ∷ us) e)) ∙ same in
@@ -102,7 +102,7 @@ onward_numbered old new named o k l =
 
 -- past EOF nothing else is ahead
 pub ahead_of_eof : (ts : List Fields) → EndsInEof ts → is_eof (token_at ts 0).typ ≡ true → shown_at ts (pos 2) ≡ shown_at ts (pos 1)
-ahead_of_eof [] ends e = absurd (omega (arith, ends.some))
+ahead_of_eof [] ends e = absurd (omega (arith, ends.non_empty))
 ahead_of_eof (t ∷ []) ends e = refl
 ahead_of_eof (t ∷ u ∷ us) ends e = absurd (both_ways _ (ends.before 0 (omega arith)) e)
 

@@ -275,7 +275,7 @@ module _ (tape first : List Fields) (shows : Shows tape first) (n : Net) (fit : 
 
   pub tells_none : (v : View) → v.state ≡ None → v.open_rules ≡ [] → v.strategy ≡ new_strategy_state → v.shown ≡ first → MatchesHistory n first [] v
   tells_none v state none strategy shown =
-      let l = left_by v (onward_by [] v.shown first (sym shown) (subst (λ ts. 0 < length ts) (sym shown) shows.ends.some)) in
+      let l = left_by v (onward_by [] v.shown first (sym shown) (subst (λ ts. 0 < length ts) (sym shown) shows.ends.non_empty)) in
       let stand : stands v ≡ standing n [] = ap₂ (λ s os. record { state = s; invoking = map (λ o. o.invoking) os }) state none in
       record {
         standing = stand;

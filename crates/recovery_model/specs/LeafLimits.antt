@@ -4,11 +4,7 @@ use Rattle.token.specs.declared.token_type.TokenType.{TokenType}
 use Rattle.token.specs.Tokens.{Fields, type_number}
 use Rattle.token_stream.specs.Tapes.{token_at}
 use Rattle.leaves.specs.declared.leaf.LeafKind.{LeafKind}
-use Rattle.leaves.specs.Leaves.{LeafFields, LeafFits}
-
--- the leaf with these fields
-abbrev pub leaf_of : LeafKind → ℕ → ℕ → TokenType → Option ℕ → ℕ × ℕ → LeafFields
-leaf_of kind depth rule typ index position = record { kind = kind; depth = depth; rule = rule; typ = typ; index = index; line = position.0; column = position.1 }
+use Rattle.leaves.specs.Leaves.{leaf_of, LeafFits}
 
 -- What a leaf says beside its token's place is within the limits: the depth, the rule and the type.
 pub record RestFits (d r : ℕ) (t : TokenType) : Type 0 where

@@ -31,12 +31,12 @@ others p (t ∷ ts) zero l = refl
 others p (t ∷ ts) (suc k) l = others (p + 1) ts k (omega (arith, l))
 
 ends_in_eof : (ts : List ℕ) → EndsInEof (tokens 0 ts)
-ends_in_eof ts = record { some = omega (arith, long 0 ts); last = last 0 ts; before = others 0 ts }
+ends_in_eof ts = record { non_empty = omega (arith, long 0 ts); last = last 0 ts; before = others 0 ts }
 
 shows_all : (ts : List ℕ) → length ts < 65535 → Shows (tokens 0 ts) (tokens 0 ts)
 shows_all ts few = record {
   sound = record {
-    few = omega (arith, few, long 0 ts);
+    bounded = omega (arith, few, long 0 ts);
     ends = ends_in_eof ts;
     placed = λ k l. let h = in_place 0 ts k l in
         record {
