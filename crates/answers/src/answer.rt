@@ -10,7 +10,7 @@ use crate::leaf_lists::LeafLists;
 use crate::leaves::{AddedLeaf, LINE, no_leaf};
 use crate::shown::ShownToken;
 use crate::tape::answer_tape;
-use atn::atn::Atn;
+use atn::Atn;
 use errors::denial::Denial;
 use interval_set::IntervalSet;
 use reports::Counter;

@@ -8,7 +8,7 @@ ghost use Rattle.answers.specs.Leaves.{room};
 use crate::leaf_lists::LeafLists;
 use crate::leaves::AddedLeaf;
 use crate::shown::ShownToken;
-use atn::atn::Atn;
+use atn::Atn;
 use errors::denial::Denial;
 use interval_set::IntervalSet;
 use ll1_analyzer::analyzer::LL1Analyzer;

@@ -1,8 +1,8 @@
 // The walker.
 ghost use Rattle.std.specs.Prelude.{◌≡◌};
 
-use atn::atn::Atn;
-use atn::nullables::NullableStates;
+use atn::Atn;
+use atn::NullableStates;
 
 // Works each answer out by walks over the net. Kept are the nullable states alone: those from which a walk
 // on an empty stack can end on a stop state.

@@ -8,7 +8,7 @@ ghost use Rattle.ll1_analyzer.specs.Sets.{Within};
 
 use crate::lookahead::Lookahead;
 use crate::slot::Slot;
-use atn::atn::Atn;
+use atn::Atn;
 use interval_set::IntervalSet;
 
 // Keeps up to 16 of the sets that the lookahead below has answered, each in the slot of its state.

@@ -6,7 +6,7 @@ ghost use Rattle.atn_graph.specs.Net.{state_at, edges_of};
 ghost use Rattle.ll1_analyzer.specs.Answers.{HoldsExactly, KeepsNet};
 ghost use Rattle.ll1_analyzer.specs.Sets.{Within};
 
-use atn::atn::Atn;
+use atn::Atn;
 use atn_graph::StateKind;
 use atn_graph::Transition;
 use interval_set::IntervalSet;

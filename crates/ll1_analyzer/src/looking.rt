@@ -8,8 +8,8 @@ ghost use Rattle.ll1_analyzer.specs.Sets.{Within};
 
 use crate::analyzer::LL1Analyzer;
 use crate::lookahead::{EPSILON, Lookahead};
-use atn::atn::Atn;
-use atn::nullables::NullableStates;
+use atn::Atn;
+use atn::NullableStates;
 use interval_set::IntervalSet;
 
 impl<'a> LL1Analyzer<'a> {

@@ -7,7 +7,7 @@ ghost use Rattle.atn.specs.Checked.{net_of};
 
 use crate::analyzer::LL1Analyzer;
 use crate::lookahead::Lookahead;
-use atn::atn::Atn;
+use atn::Atn;
 use interval_set::IntervalSet;
 use std::alloc::{AllocError, Global};
 

@@ -8,7 +8,7 @@ ghost use Rattle.ll1_analyzer.specs.Sets.{Within};
 ghost use Rattle.samples.specs.Pass.{pass, PassSets};
 
 use crate::rows::{EDGES, RULES, STATES};
-use atn::atn::Atn;
+use atn::Atn;
 use atn_graph::{Counts, Tables};
 use errors::denial::Denial;
 use interval_set::IntervalSet;

@@ -3,7 +3,7 @@ ghost use Rattle.script.specs.Answers.{Answered, checked_net, verdict_of, verdic
 ghost use Rattle.script.specs.Contents.{content};
 
 use crate::script::Script;
-use atn::atn::Atn;
+use atn::Atn;
 use errors::denial::Denial;
 use std::fmt;
 
