@@ -3,14 +3,13 @@ use Rattle.std.proofs.Common.{ℕ, ◌⊎◌, List, [], ◌∷◌, inl, inr}
 use Rattle.atn_graph.specs.Net.{Net}
 use Rattle.atn.specs.Walks.{Walk}
 use Rattle.atn.specs.Reach.{Nullable, StepOver, ReachesOver}
-use Rattle.atn.proofs.Reaching.{Reaches}
 
 -- k is reached from s, or from a state of the stack with all above it nullable
 abbrev pub Visited : Net → ℕ → List ℕ → ℕ → Type 0
-Visited n s [] k = Reaches n s k
-Visited n s (f ∷ p) k = Reaches n s k ⊎ (Nullable n s × Visited n f p k)
+Visited n s [] k = ReachesOver (Nullable n) n s k
+Visited n s (f ∷ p) k = ReachesOver (Nullable n) n s k ⊎ (Nullable n s × Visited n f p k)
 
-visited_here : {n : Net} {s k : ℕ} (p : List ℕ) → Reaches n s k → Visited n s p k
+visited_here : {n : Net} {s k : ℕ} (p : List ℕ) → ReachesOver (Nullable n) n s k → Visited n s p k
 visited_here [] r = r
 visited_here (f ∷ p) r = inl r
 
@@ -35,7 +34,7 @@ walk_over (Nullable.stops e) w = Walk.back e w
 walk_over (Nullable.along e u) w = Walk.along e (walk_over u w)
 walk_over (Nullable.over e u v) w = Walk.call e (walk_over u (walk_over v w))
 
-pub walk_of_reaches : {n : Net} {s k : ℕ} → Reaches n s k → (p : List ℕ) → (q : List ℕ) × Walk n s p k q
+pub walk_of_reaches : {n : Net} {s k : ℕ} → ReachesOver (Nullable n) n s k → (p : List ℕ) → (q : List ℕ) × Walk n s p k q
 walk_of_reaches ReachesOver.here p = (p, Walk.here)
 walk_of_reaches (ReachesOver.more (StepOver.along e) r) p = let w = walk_of_reaches r p in (w.0, Walk.along e w.1)
 walk_of_reaches (ReachesOver.more (StepOver.into {f = f} e) r) p = let w = walk_of_reaches r (f ∷ p) in (w.0, Walk.call e w.1)

@@ -13,10 +13,7 @@ elem_push k x (y ∷ xs) = ap (λ b. eqb k y || b) (elem_push k x xs) ∙ sym (o
 
 -- what stands at a place of a list is in it, and what is in it stands at a place
 pub elem_at : (xs : List ℕ) (i : ℕ) → i < length xs → elem (get_or xs i 0) xs ≡ true
-elem_at [] i l = absurd (none i l)
-  where
-    none : (i : ℕ) → i < 0 → ⊥
-    none i l = omega arith
+elem_at [] i l = absurd (omega arith)
 elem_at (x ∷ xs) zero l = or_left _ _ (eq-eqb x x refl)
 elem_at (x ∷ xs) (suc i) l = or_right (eqb (get_or xs i 0) x) _ (elem_at xs i (omega arith))
 

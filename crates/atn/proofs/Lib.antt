@@ -1,6 +1,5 @@
 pub mod Growth
 pub mod Some
-pub mod Reaching
 pub mod Noting
 pub mod Following
 pub mod Steps

@@ -8,13 +8,12 @@ use Rattle.atn_graph.specs.declared.transition.Move.TheVariants.{Along, Call, To
 use Rattle.atn_graph.specs.Kinds.{move_of}
 use Rattle.atn_graph.specs.Net.{Net, net, size, state_at, edge_at}
 use Rattle.atn.specs.Walks.{HasEdge, Walk, LeftRecursiveFrom}
-use Rattle.atn.specs.Reach.{Listed, KnowsNullable, KnowsReachedOver}
+use Rattle.atn.specs.Reach.{Nullable, Listed, KnowsNullable, KnowsReachedOver}
 use Rattle.atn.specs.Among.{Among}
 use Rattle.atn.specs.Calls.{calls_by, is_call, calls}
 use Rattle.atn.proofs.Growth.{elem_at, place_of}
 use Rattle.atn.proofs.Some.{no_edges, any_place, place_any, any_edge}
 use Rattle.atn.proofs.Over.{knows_over}
-use Rattle.atn.proofs.Reaching.{KnowsReached}
 use Rattle.atn.proofs.Decompose.{visited_of_walk, walk_of_reaches}
 
 -- s has a rule edge to t
@@ -48,7 +47,7 @@ none_outside n s l r = at r.walk r.calls
 
 -- A rule is left-recursive if a state that its start state reaches calls the start state.
 module _ (g : Graph) (s : ℕ) (nullables xs : List ℕ) (known : KnowsNullable (net g.lists) nullables) where
-  found_recursive : KnowsReached (net g.lists) s xs → Decides (list_any (λ k. calls (net g.lists) k s) xs) (LeftRecursiveFrom (net g.lists) s)
+  found_recursive : KnowsReachedOver (Nullable (net g.lists)) (net g.lists) s xs → Decides (list_any (λ k. calls (net g.lists) k s) xs) (LeftRecursiveFrom (net g.lists) s)
   found_recursive reached = (there, back)
     where
       there : list_any (λ k. calls (net g.lists) k s) xs ≡ true → LeftRecursiveFrom (net g.lists) s

@@ -25,12 +25,9 @@ search_start N g s xs ys x y l = record {
   start = gr.marks s refl;
   reached = λ k h. subst (ReachesOver N (net g.lists) s) (at k h) ReachesOver.here;
   inside = λ k h. subst (λ i. i < size (net g.lists)) (at k h) l;
-  visited = λ i k b. absurd (none i b);
+  visited = λ i k b. absurd (omega arith);
 }
   where
-    none : (i : ℕ) → i < 0 → ⊥
-    none i b = omega arith
-
     gr : Grown (λ k. s ≡ k) [] ys
     gr = subst (λ b. Grown (λ k. s ≡ k) [] b) (sym (y ∙ ap (with_state s) x)) (grown_with s [])
 

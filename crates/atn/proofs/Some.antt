@@ -27,10 +27,7 @@ module _ {P : Transition → Type 0} (n : Net) (low : ℕ) where
 
 -- past its states a net has no edges
 pub no_edges : (n : Net) (s j : ℕ) → size n ≤ s → Of n s j → ⊥
-no_edges n s j l of = none (subst (λ x. j < x.end) (get_or_past n.states s no_state l) of.1)
-  where
-    none : j < 0 → ⊥
-    none h = omega arith
+no_edges n s j l of = let h : j < 0 = subst (λ x. j < x.end) (get_or_past n.states s no_state l) of.1 in omega arith
 
 pub edge_state : (n : Net) (s j : ℕ) → Of n s j → s < size n
 edge_state n s j of = at (cases_lt s (size n))
@@ -49,10 +46,7 @@ any_place p d (x ∷ xs) h = at (λ t. any_place p d xs t) (or_cases (p x) (list
     at rest (inr t) = let r = rest t in (suc r.0, omega (arith, r.1), r.2)
 
 pub place_any : {X : Type 0} (p : X → Bool) (d : X) (xs : List X) (i : ℕ) → i < length xs → p (get_or xs i d) ≡ true → list_any p xs ≡ true
-place_any p d [] i l h = absurd (none i l)
-  where
-    none : (i : ℕ) → i < 0 → ⊥
-    none i l = omega arith
+place_any p d [] i l h = absurd (omega arith)
 place_any p d (x ∷ xs) zero l h = or_left (p x) (list_any p xs) h
 place_any p d (x ∷ xs) (suc i) l h = or_right (p x) (list_any p xs) (place_any p d xs i (omega arith) h)
 

@@ -17,10 +17,7 @@ zip_more P rows xs ys i r x l e m z p =
 
 -- what holds of two lists place by place holds at each place
 pub at_place : {R X : Type 0} (P : R → X → Type 0) (rows : List R) (xs : List X) → AllZip P rows xs → (k : ℕ) (r : R) (x : X) → k < length xs → P (get_or rows k r) (get_or xs k x)
-at_place P [] [] z k r x l = absurd (none k l)
-  where
-    none : (k : ℕ) → k < 0 → ⊥
-    none k l = omega arith
+at_place P [] [] z k r x l = absurd (omega arith)
 at_place P [] (y ∷ ys) z k r x l = absurd z
 at_place P (q ∷ qs) [] z k r x l = absurd z
 at_place P (q ∷ qs) (y ∷ ys) z zero r x l = z.0

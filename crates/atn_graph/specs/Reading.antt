@@ -23,4 +23,4 @@ KindRead row k = (row.kind ≡ pos (transition_number k)) × Columns row k
 abbrev pub StatesRead : List StateRow → ℕ → List AtnState → Type 0
 StatesRead rows count ss = (s : ℕ) → s < count
     → WritesState
-      (slice_index_or rows s no_state_row) (end_before ss s) (slice_index_or ss s no_state)
+    (slice_index_or rows s no_state_row) (end_before ss s) (slice_index_or ss s no_state)
