@@ -1,4 +1,4 @@
-// Leaves and reports that the tests use.
+//! Leaves and reports that the tests use.
 use interval_set::set::IntervalSet;
 use leaves::{Leaf, LeafKind};
 use reports::{Report, ReportKind};

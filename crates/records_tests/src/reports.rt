@@ -1,4 +1,4 @@
-// What a report says of the types that were expected.
+//! What a report says of the types that were expected.
 use interval_set::set::IntervalSet;
 use reports::{Report, ReportKind};
 use std::test::*;

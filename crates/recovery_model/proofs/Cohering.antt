@@ -141,7 +141,6 @@ module _ (n : Net) where
   abbrev Does : Outcome → Type 0
   Does o = Coherent n o.view
 
-
   module _ (w : WithinSets) (v : View) (c : Coherent n v) where
     after_match : (fit : Bool) → 0 < length v.open_rules → Does (matched fit n w v)
     after_match fit some =

@@ -2,9 +2,9 @@
 ghost use Rattle.std.specs.Prelude.{◌≡◌};
 ghost use Rattle.recovery_model.specs.Calls.{answer_number, answer_of};
 
-use token::TokenFields;
 use errors::denial::Denial;
 use fixed_vec::fixed_vec::FixedVec;
+use token::TokenFields;
 
 // The invoking states of open rules, innermost first, in 16 bits each: a net has at most 512 states.
 pub type Chain = FixedVec<u16, 63>;

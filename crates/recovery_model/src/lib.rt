@@ -5,5 +5,5 @@ pub mod answer;
 pub mod call;
 pub mod event;
 pub mod law;
-pub mod strategy_state;
 pub mod open_rule;
+pub mod strategy_state;

@@ -1,5 +1,5 @@
-// Examples of tokens, tapes and streams.
 #![tactic(auto)]
+//! Examples of tokens, tapes and streams.
 
 #[cfg(test)]
 mod filters;

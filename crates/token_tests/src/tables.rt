@@ -1,11 +1,8 @@
-// A table as a stream.
+//! A table as a stream.
 use crate::words::*;
 use std::test::*;
-use token::{LaneFactory, WordFactory};
-use token::{Token, TokenFactory};
-use token::TokenType;
-use token_stream::{IntStream, TokenStream};
-use token_stream::TokenTable;
+use token::{LaneFactory, Token, TokenFactory, TokenType, WordFactory};
+use token_stream::{IntStream, TokenStream, TokenTable};
 
 #[test]
 fn what_is_ahead(rt: HostRuntime) -> Result<(), Fail> {
