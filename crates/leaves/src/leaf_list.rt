@@ -29,7 +29,7 @@ pub trait LeafList {
     fn free(&self) -> usize
         ensures { result ≡ free self.now };
 
-    /// Takes one leaf more. Denied with 11 if no place is free, and then nothing changes.
+    /// Takes one leaf more. Denied with `NoLeafFree` if no place is free, and then nothing changes.
     fn add(&mut self, leaf: Leaf) -> Result<(), Denial>
         ensures room { 0 < free self.old →
             (result ≡ Ok tt) × Grown leaves free rest size self.old (leaf ∷ []) self.new }

@@ -5,8 +5,7 @@ use Rattle.std.proofs.lemmas.Bool.{both_ways, cases_lt}
 use Rattle.atn_graph.specs.Kinds.{is_stop}
 use Rattle.atn_graph.specs.Net.{Net, size, no_state}
 use Rattle.atn.specs.Walks.{Stop, Walk}
-use Rattle.atn.specs.Reach.{Nullable}
-use Rattle.atn.proofs.Reaching.{Reaches}
+use Rattle.atn.specs.Reach.{Nullable, Reaches}
 use Rattle.atn.proofs.Some.{edge_state}
 use Rattle.atn.proofs.Decompose.{walk_over, visited_of_walk, walk_of_reaches}
 use Rattle.ll1_analyzer.specs.Sets.{EndsWith, EndsOnStop}

@@ -7,6 +7,7 @@ use Rattle.atn_graph.specs.declared.transition.Move.TheVariants.{Along, Call, To
 use Rattle.atn_graph.specs.declared.transition.Transition.{Transition}
 use Rattle.atn_graph.specs.Kinds.{move_of}
 use Rattle.atn_graph.specs.Net.{Net, size, edges_of}
+use Rattle.ll1_analyzer.specs.declared.chain.TheConstants.{MAX_CHAIN}
 
 -- the follow state of a move, if the move is a call
 abbrev pub called_follow : Move → Option ℕ
@@ -29,7 +30,7 @@ follow_states n chain = map (λ s. unwrap_or (follow_of n s) 0) chain
 
 -- A chain holds at most 63 states, and each calls a rule.
 abbrev pub Faulty : Net → List ℕ → Type 0
-Faulty n chain = (63 < length chain) ⊎ Any (λ s. follow_of n s ≡ None) chain
+Faulty n chain = (MAX_CHAIN < length chain) ⊎ Any (λ s. follow_of n s ≡ None) chain
 
 -- which denials fit a question about a state, about a chain, and about both
 abbrev pub StateFault : Net → ℕ → Denial → Type 0

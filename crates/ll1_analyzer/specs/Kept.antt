@@ -2,7 +2,7 @@
 use Rattle.std.specs.Prelude.{◌≡◌, ℕ, List, length, slice_get, slice_index_or, Some, None, Option}
 use Rattle.interval_set.specs.declared.set.IntervalSet.{IntervalSet}
 use Rattle.atn_graph.specs.Net.{Net, size}
-use Rattle.ll1_analyzer.specs.declared.slot.Slot.{Slot}
+use Rattle.ll1_analyzer.specs.declared.cache.Slot.{Slot}
 use Rattle.ll1_analyzer.specs.Sets.{Within}
 use Rattle.ll1_analyzer.specs.Answers.{HoldsExactly}
 

@@ -1,4 +1,4 @@
-// From a chain of invoking states to the follow states of the open rules.
+//! From a chain of invoking states to the follow states of the open rules.
 ghost use Rattle.std.specs.Prelude.{◌≡◌, ◌+◌, ◌≤◌, ◌++◌, length, map};
 ghost use Rattle.std.specs.Option.{option_map};
 ghost use Rattle.fixed_vec.specs.Items.{items};
@@ -6,16 +6,21 @@ ghost use Rattle.atn.specs.Checked.{net_of};
 ghost use Rattle.ll1_analyzer.specs.Chains.{first_follow};
 ghost use Rattle.ll1_analyzer.specs.Listing.{follow, ReadsCalls, Lists};
 
-use crate::follow_states::FollowStates;
 use crate::lookahead::Lookahead;
-use atn_graph::{Move, Transition};
+use atn_graph::transition::{Move, Transition};
 use errors::denial::Denial;
-use fixed_vec::FixedVec;
+use fixed_vec::fixed_vec::FixedVec;
+
+/// How many states a chain of invoking states holds at most.
+pub const MAX_CHAIN: usize = 63;
+
+/// The follow states of the open rules, innermost first: each state of a chain has one.
+pub type FollowStates = FixedVec<usize, MAX_CHAIN>;
 
 // A rule edge, by the state that follows the call.
 #[derive(Clone, Copy, Default)]
-pub struct RuleTransition {
-    pub follow_state: usize,
+struct RuleTransition {
+    follow_state: usize,
 }
 
 // The rule edge that is the first of some edges, if it is one.
@@ -32,9 +37,8 @@ fn rule_transition(edges: &[Transition]) -> Option<RuleTransition>
 }
 
 // Adds the follow states of the calls, one by one.
-// Kept a recursion: it falls by the calls that are left, and its meaning is the list that it adds.
 fn add_follow_states(calls: &[RuleTransition], follows: &mut FollowStates)
-    requires { length (items follows.old) + length calls.now ≤ 63 }
+    requires { length (items follows.old) + length calls.now ≤ MAX_CHAIN }
     ensures { items follows.new ≡ items follows.old ++ map follow calls.now }
 {
     if let Some((call, rest)) = calls.split_first() {
@@ -48,7 +52,7 @@ fn add_follow_states(calls: &[RuleTransition], follows: &mut FollowStates)
 fn rule_transitions<L: Lookahead>(
     l: &L,
     chain: &[usize],
-) -> Result<FixedVec<RuleTransition, 63>, Denial>
+) -> Result<FixedVec<RuleTransition, MAX_CHAIN>, Denial>
     ensures { ReadsCalls (net_of (L.atn l.now)) chain.now result }
 {
     let mut calls = FixedVec::new();
@@ -59,7 +63,8 @@ fn rule_transitions<L: Lookahead>(
     Ok(calls)
 }
 
-// The follow states of a chain of invoking states, innermost first.
+/// The follow states of a chain of invoking states, innermost first. Denied with `FaultyChain` if
+/// the chain is too long, or a state in it calls no rule.
 pub fn follow_list<L: Lookahead>(l: &L, chain: &[usize]) -> Result<FollowStates, Denial>
     ensures { Lists (net_of (L.atn l.now)) chain.now result }
 {

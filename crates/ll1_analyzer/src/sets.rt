@@ -1,4 +1,4 @@
-// The four sets of token types that may come next, over any lookahead.
+//! The four sets of token types that may come next, over any lookahead.
 ghost use Rattle.std.specs.Prelude.{◌≡◌, ◌∷◌, IfOk, OnErr};
 ghost use Rattle.errors.specs.Denials.{DeniesFirst};
 ghost use Rattle.atn.specs.Checked.{net_of};
@@ -9,24 +9,26 @@ ghost use Rattle.ll1_analyzer.specs.Sets.{Within, InContext, Joined, Expected, R
 use crate::chain::follow_list;
 use crate::lookahead::{EOF, EPSILON, Lookahead};
 use errors::denial::Denial;
-use interval_set::IntervalSet;
+use interval_set::set::IntervalSet;
 
-// The within-rule set of s.
+/// The within-rule set of s. Denied with `StateOutside` if s lies outside the net.
 pub fn next_tokens<L: Lookahead>(l: &mut L, s: usize) -> Result<IntervalSet, Denial>
     ensures keeps { KeepsNet L.atn L.agrees l.old l.new }
     ensures denied_alters_nothing { OnErr result (l.new ≡ l.old) }
     ensures verdict { DeniesFirst (StateFault (net_of (L.atn l.old)) s) result }
-    ensures holds { L.agrees l.old → IfOk result (λ set. HoldsExactly set (Within (net_of (L.atn l.old)) s)) }
+    ensures holds { L.agrees l.old → let n = net_of (L.atn l.old) in
+        IfOk result (λ set. HoldsExactly set (Within n s)) }
 {
     l.kind(s).ok_or(Denial::StateOutside)?;
     Ok(l.within(s))
 }
 
-// The within-rule sets of s and of the follow states in their order, as far as each holds EPSILON; EOF
-// if the last of all holds it.
+// The within-rule sets of s and of the follow states in their order, as far as each holds EPSILON;
+// EOF if the last of all holds it.
 fn join<L: Lookahead>(l: &mut L, s: usize, follows: &[usize]) -> IntervalSet
     ensures keeps { KeepsNet L.atn L.agrees l.old l.new }
-    ensures joins { L.agrees l.old → HoldsExactly result (Joined (net_of (L.atn l.old)) (s ∷ follows.now)) }
+    ensures joins { L.agrees l.old →
+        HoldsExactly result (Joined (net_of (L.atn l.old)) (s ∷ follows.now)) }
 {
     let mut set = l.within(s);
     for f in follows {
@@ -44,7 +46,8 @@ fn join<L: Lookahead>(l: &mut L, s: usize, follows: &[usize]) -> IntervalSet
     set
 }
 
-// The expected set of s with the follow states of the chain.
+/// The expected set of s with the follow states of the chain. Denied with `FaultyChain` if the
+/// chain is faulty, else with `StateOutside` if s lies outside the net.
 pub fn get_expected_tokens<L: Lookahead>(
     l: &mut L,
     s: usize,
@@ -61,8 +64,8 @@ pub fn get_expected_tokens<L: Lookahead>(
     Ok(join(l, s, follows.as_slice()))
 }
 
-// The in-context set of s: walks that begin with the follow states stacked end with the types that the
-// within-rule sets join to.
+/// The in-context set of s: walks that begin with the follow states stacked end with the types that
+/// the within-rule sets join to. Denied as the expected set is.
 pub fn next_tokens_in_ctx<L: Lookahead>(
     l: &mut L,
     s: usize,
@@ -77,7 +80,7 @@ pub fn next_tokens_in_ctx<L: Lookahead>(
     get_expected_tokens(l, s, chain)
 }
 
-// The recovery set of the chain.
+/// The recovery set of the chain. Denied with `FaultyChain` if the chain is faulty.
 pub fn get_error_recovery_set<L: Lookahead>(
     l: &mut L,
     chain: &[usize],

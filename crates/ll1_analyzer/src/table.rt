@@ -1,4 +1,4 @@
-// The table of all within-rule sets.
+//! The table of all within-rule sets.
 ghost use Rattle.std.specs.Prelude.{◌≡◌, IfOk};
 ghost use Rattle.ll1_analyzer.specs.Kept.{AreWithin};
 ghost use Rattle.ll1_analyzer.specs.Answers.{HoldsExactly, KeepsNet};
@@ -7,26 +7,25 @@ ghost use Rattle.atn.specs.Checked.{net_of};
 
 use crate::analyzer::LL1Analyzer;
 use crate::lookahead::Lookahead;
-use atn::Atn;
-use interval_set::IntervalSet;
+use atn::atn::Atn;
+use interval_set::set::IntervalSet;
 use std::alloc::{AllocError, Global};
 
-// Keeps the set of each state, worked out beforehand.
+/// Keeps the set of each state, worked out beforehand.
 #[derive(Drop)]
 pub struct Table<'a> {
-    pub(crate) atn: &'a Atn,
-    pub(crate) sets: Vec<IntervalSet>,
+    atn: &'a Atn,
+    sets: Vec<IntervalSet>,
 }
 
 impl<'a> Table<'a> {
-    // Lack of memory is the only error.
+    /// The table of this net. Want of memory is the only error.
     pub fn new(alloc: Global, atn: &'a Atn) -> Result<Table<'a>, AllocError>
         ensures net { IfOk result (λ t. t.atn.now ≡ atn.now) }
         ensures agrees { IfOk result ⟦<Table<'a> as Lookahead>⟧.agrees }
     {
         let analyzer = LL1Analyzer::new(atn);
         let mut sets = Vec::new(alloc);
-        // kept as a loop: what `look` promises does not come through a `map` in the proof
         for s in 0..atn.state_count() {
             sets.push(analyzer.look(s))?;
         }
@@ -44,8 +43,10 @@ impl<'a> Lookahead for Table<'a> {
     }
 
     fn within(&mut self, s: usize) -> IntervalSet
-        ensures keeps { KeepsNet ⟦<Table<'a> as Lookahead>⟧.atn ⟦<Table<'a> as Lookahead>⟧.agrees self.old self.new }
-        ensures answers { ⟦<Table<'a> as Lookahead>⟧.agrees self.old → HoldsExactly result (Within (net_of self.old.atn.now) s) }
+        ensures keeps { KeepsNet
+            ⟦<Table<'a> as Lookahead>⟧.atn ⟦<Table<'a> as Lookahead>⟧.agrees self.old self.new }
+        ensures answers { ⟦<Table<'a> as Lookahead>⟧.agrees self.old →
+            HoldsExactly result (Within (net_of self.old.atn.now) s) }
         ensures alters_nothing { self.new ≡ self.old }
     {
         self.sets.get(s).copied().unwrap_or_else(IntervalSet::new)

@@ -1,4 +1,4 @@
-// The limits of a leaf.
+//! The limits of a leaf.
 use leaves::{Leaf, LeafKind};
 use std::test::*;
 use token::TokenType;

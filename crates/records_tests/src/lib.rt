@@ -1,5 +1,5 @@
-// Examples of leaves, reports and what takes them.
 #![tactic(auto)]
+//! Examples of leaves, reports and what takes them.
 
 mod eof_watch;
 #[cfg(test)]

@@ -1,9 +1,7 @@
-// The text that a writer of leaves writes.
+//! The text that a writer of leaves writes.
 use crate::owners::add_two;
 use errors::denial::Denial;
-use leaves::{Leaf, LeafKind};
-use leaves::LeafList;
-use leaves::LeafWriter;
+use leaves::{Leaf, LeafKind, LeafList, LeafWriter};
 use std::test::*;
 use token::TokenType;
 

@@ -1,11 +1,8 @@
-// What listeners are told of a fault.
+//! What listeners are told of a fault.
 use crate::made::report;
 use crate::owners::eof_at_either;
-use interval_set::IntervalSet;
-use reports::Counter;
-use reports::notify_error_listeners;
-use reports::Recorder;
-use reports::{Report, ReportKind};
+use interval_set::set::IntervalSet;
+use reports::{Counter, Recorder, Report, ReportKind, notify_error_listeners};
 use std::test::*;
 
 #[test]

@@ -1,21 +1,15 @@
-// What the owner of a lent table knows once code that is generic has written to it.
+//! What the owner of a lent table knows once code that is generic has written to it.
 ghost use Rattle.std.specs.Prelude.{◌≡◌, ◌<◌, ◌≤◌, [], ◌∷◌, ◌++◌, drop, length, None, ◌||◌, negsuc};
 ghost use Rattle.leaves.specs.Adding.{Grown};
 ghost use Rattle.leaves.specs.LeafLines.{leaf_line};
-ghost use Rattle.reports.specs.Heard.{Told, Hears, told_at};
+ghost use Rattle.reports.specs.Heard.{Told, Hears, told_at, told_of};
 ghost use Rattle.reports.specs.Reports.{expects};
 
 use crate::eof_watch::EofWatch;
-use interval_set::IntervalSet;
 use fixed_vec::BoundedList;
-use reports::Counter;
-use leaves::Leaf;
-use leaves::LeafList;
-use leaves::LeafTable;
-use leaves::LeafWriter;
-use reports::{Listener, notify_error_listeners};
-use reports::Recorder;
-use reports::{Report, ReportKind};
+use interval_set::set::IntervalSet;
+use leaves::{Leaf, LeafList, LeafTable, LeafWriter};
+use reports::{Counter, Listener, Recorder, Report, ReportKind, notify_error_listeners};
 
 pub(crate) fn add_two<L: LeafList>(l: &mut L, a: Leaf, b: Leaf)
     ensures same_memory { L.lent l.new ≡ L.lent l.old }
@@ -43,7 +37,8 @@ pub(crate) fn write_two(table: &mut [u8], a: Leaf, b: Leaf)
 
 pub(crate) fn report_two<L: Listener>(l: &mut L, a: Report, b: Report, expected: &IntervalSet)
     ensures same_memory { L.lent l.new ≡ L.lent l.old }
-    ensures two { let told : Report → Told = λ r. record { report = r; types = expects expected.now } in Hears L.heard L.kept L.keeps (told a ∷ told b ∷ []) l.old l.new }
+    ensures two { let told : Report → Told = λ r. told_of r (expects expected.now) in
+        Hears L.heard L.kept L.keeps (told a ∷ told b ∷ []) l.old l.new }
 {
     l.report(a, expected);
     l.report(b, expected);
@@ -68,7 +63,8 @@ pub(crate) fn count_two(a: Report, b: Report, expected: &IntervalSet) -> u32
 // Two faults, at which these types were expected.
 pub(crate) fn notify_two<L: Listener>(l: &mut L, first: &IntervalSet, second: &IntervalSet)
     ensures same_memory { L.lent l.new ≡ L.lent l.old }
-    ensures two { let told : IntervalSet → Told = λ s. told_at ReportKind.InputMismatch None (1, 0) (expects s) in Hears L.heard L.kept L.keeps (told first.now ∷ told second.now ∷ []) l.old l.new }
+    ensures two { let told : IntervalSet → Told = λ s. told_at ReportKind.InputMismatch None (1, 0) (expects s) in
+        Hears L.heard L.kept L.keeps (told first.now ∷ told second.now ∷ []) l.old l.new }
 {
     notify_error_listeners(l, ReportKind::InputMismatch, None, (1, 0), first);
     notify_error_listeners(l, ReportKind::InputMismatch, None, (1, 0), second);

@@ -1,14 +1,11 @@
-// Tables of leaves and of reports, filled to their last place.
+//! Tables of leaves and of reports, filled to their last place.
 use crate::made::{leaf, report};
 use crate::owners::{add_two, report_two};
 use errors::denial::Denial;
-use interval_set::IntervalSet;
 use fixed_vec::BoundedList;
-use reports::Counter;
-use leaves::LeafList;
-use leaves::LeafTable;
-use reports::Listener;
-use reports::Recorder;
+use interval_set::set::IntervalSet;
+use leaves::{LeafList, LeafTable};
+use reports::{Counter, Listener, Recorder};
 use std::test::*;
 
 #[test]

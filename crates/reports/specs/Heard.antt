@@ -9,9 +9,13 @@ pub record Told : Type 0 where
   pub report : Report
   pub types : ℤ → Bool
 
+-- this report, and these types
+abbrev pub told_of : Report → (ℤ → Bool) → Told
+told_of report types = record { report = report; types = types }
+
 -- the report of a token where these types were expected, and those types
 abbrev pub told_at : ReportKind → Option ℕ → ℕ × ℕ → (ℤ → Bool) → Told
-told_at kind index position types = record { report = report_at kind index position types; types = types }
+told_at kind index position types = told_of (report_at kind index position types) types
 
 -- How many reports were heard, and the latest of them.
 pub record Heard : Type 0 where

@@ -1,11 +1,11 @@
 //! Listeners to reports.
 ghost use Rattle.std.specs.Prelude.{◌≡◌, List, [], ◌∷◌};
 ghost use Rattle.std.specs.Borrow.{GName};
-ghost use Rattle.reports.specs.Heard.{Told, Heard, Hears, told_at};
+ghost use Rattle.reports.specs.Heard.{Told, Heard, Hears, told_at, told_of};
 ghost use Rattle.reports.specs.Reports.{expects};
 
 use crate::report::{Report, ReportKind};
-use interval_set::IntervalSet;
+use interval_set::set::IntervalSet;
 
 /// Hears each report, with the set of the types that were expected, and never refuses one.
 pub trait Listener {
@@ -23,7 +23,7 @@ pub trait Listener {
 
     /// Is told of a report, and of the set of the types that were expected.
     fn report(&mut self, report: Report, expected: &IntervalSet)
-        ensures hears { let told : Told = record { report = report; types = expects expected.now } in
+        ensures hears { let told = told_of report (expects expected.now) in
             Hears heard kept keeps (told ∷ []) self.old self.new }
         ensures same_memory { lent self.new ≡ lent self.old };
 }

@@ -21,7 +21,8 @@ pub struct TokenTable<'a, T: Token, F> {
 }
 
 impl<'a, T: Token, F: Drop> TokenTable<'a, T, F> {
-    /// A stream that shows the tokens from the first on. Denied with 6 if they are no tape.
+    /// A stream that shows the tokens from the first on. Denied with `FaultyTape` if they are
+    /// no tape.
     pub fn check(tokens: &'a [T], factory: F) -> Result<TokenTable<'a, T, F>, Denial>
         ensures verdict { DeniesFirst (TapeFault (map T.fields tokens.now)) result }
         ensures whole { IfOk result (λ t. t.tokens.now ≡ tokens.now) }

@@ -1,12 +1,9 @@
-// What filters show.
+//! What filters show.
 use crate::words::*;
 use std::process::Abort;
 use std::test::*;
-use token::WordFactory;
-use token::Token;
-use token_stream::Filter;
-use token_stream::{IntStream, TokenStream};
-use token_stream::TokenTable;
+use token::{Token, WordFactory};
+use token_stream::{Filter, IntStream, TokenStream, TokenTable};
 
 #[test]
 fn hidden_at_the_start(rt: HostRuntime) -> Result<(), Fail> {

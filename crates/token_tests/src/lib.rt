@@ -1,8 +1,6 @@
-// Examples of tokens, tapes and streams.
 #![tactic(auto)]
+//! Examples of tokens, tapes and streams.
 
-#[cfg(test)]
-mod ends;
 #[cfg(test)]
 mod filters;
 #[cfg(test)]

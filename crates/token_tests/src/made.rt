@@ -1,9 +1,7 @@
-// What the factories make.
+//! What the factories make.
 use crate::words::*;
 use std::test::*;
-use token::{LaneFactory, WordFactory};
-use token::{Token, TokenFactory};
-use token::{Span, TokenType};
+use token::{LaneFactory, Span, Token, TokenFactory, TokenType, WordFactory};
 
 #[test]
 fn a_word(rt: HostRuntime) {

@@ -1,10 +1,8 @@
-// Tapes that are accepted, and tapes that are denied.
+//! Tapes that are accepted, and tapes that are denied.
 use crate::words::*;
 use errors::denial::Denial;
 use std::test::*;
-use token::{LaneFactory, LaneToken, WordToken};
-use token::Token;
-use token::TokenType;
+use token::{LaneFactory, LaneToken, Token, TokenType, WordToken};
 use token_stream::TokenTable;
 
 const FAULTY: Result<(), u8> = Err(6);

@@ -1,9 +1,7 @@
-// Tokens that the tests use, and what a stream of them shows.
+//! Tokens that the tests use, and what a stream of them shows.
 use std::process::Abort;
 use std::test::*;
-use token::WordToken;
-use token::Token;
-use token::{Span, TokenType};
+use token::{Span, Token, TokenType, WordToken};
 use token_stream::TokenStream;
 
 pub(crate) const NOWHERE: Span = Span {
