@@ -2,9 +2,9 @@
 use Rattle.std.proofs.Common.{◌≡◌, ◌∙◌, ℕ, ◌+◌, ◌<◌, List, [], ◌∷◌, ◌++◌, length, get_or, take, ap, subst, sym, refl}
 use Rattle.std.proofs.lemmas.List.{take_more}
 use Rattle.atn_graph.specs.Net.{Net}
-use Rattle.script.specs.declared.question.Question.{Question}
+use Rattle.script_lines.specs.declared.questions.Question.{Question}
 use Rattle.answers.specs.Asking.{Answer, EachAnswered, room_after, room_left}
-use Rattle.answers.specs.declared.asking.Reply.{Reply}
+use Rattle.answers.specs.declared.replies.Reply.{Reply}
 use Rattle.answers.specs.declared.shown.ShownToken.{ShownToken}
 
 room_push : (qs : List Question) (q : Question) (room : ℕ) → room_left (qs ++ q ∷ []) room ≡ room_after q.ask (room_left qs room)

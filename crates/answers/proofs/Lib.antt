@@ -1,6 +1,6 @@
 pub mod EachMore
 pub mod LastLine
 pub mod Listed
-pub mod Verdict
+pub mod Tables
+pub mod TapeVerdict
 pub mod Written
-pub mod Zipped

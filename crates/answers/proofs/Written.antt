@@ -10,15 +10,10 @@ use Rattle.token.specs.declared.token_type.TokenType.{TokenType}
 use Rattle.token.specs.declared.token_type.TokenType.TheVariants.{Eof, Of}
 use Rattle.token.specs.Tokens.{Fields, type_number}
 use Rattle.token_stream.specs.Tapes.{no_token, token_at, IsTape}
-use Rattle.script.specs.declared.token_row.TokenRow.{TokenRow}
-use Rattle.script.specs.TokenRows.{WritesToken, WritesTape}
+use Rattle.script_lines.specs.declared.token_rows.TokenRow.{TokenRow}
+use Rattle.script_lines.specs.TokenRows.{WritesToken, WritesTape}
+use Rattle.script_lines.proofs.Zipped.{zip_at}
 use Rattle.answers.specs.Tapes.{Numbered}
-
-pub zip_at : {A B : Type 0} (R : A → B → Type 0) (xs : List A) (ys : List B) (i : ℕ) (x : A) (y : B) → AllZip R xs ys → i < length xs → R (get_or xs i x) (get_or ys i y)
-zip_at R [] ys i x y z l = absurd (omega (arith, l))
-zip_at R (a ∷ xs) [] i x y z l = absurd z
-zip_at R (a ∷ xs) (b ∷ ys) zero x y z l = z.0
-zip_at R (a ∷ xs) (b ∷ ys) (suc i) x y z l = zip_at R xs ys i x y z.1 (omega (arith, l))
 
 same_type : (t u : TokenType) → type_number t ≡ type_number u → t ≡ u
 same_type Eof Eof e = refl

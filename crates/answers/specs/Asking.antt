@@ -7,11 +7,11 @@ use Rattle.atn_graph.specs.Net.{Net}
 use Rattle.ll1_analyzer.specs.Answers.{HoldsExactly}
 use Rattle.ll1_analyzer.specs.Chains.{follow_states, StateFault, ChainFault, Fault}
 use Rattle.ll1_analyzer.specs.Sets.{Within as WithinRule, InContext as InContextSet, Expected as ExpectedSet, Recovery as RecoverySet}
-use Rattle.script.specs.declared.question.Ask.{Ask}
-use Rattle.script.specs.declared.question.Ask.TheVariants.{Within, InContext, Expected, Recovery, Tokens, Leaf}
-use Rattle.script.specs.declared.question.Question.{Question}
-use Rattle.answers.specs.declared.asking.Reply.{Reply}
-use Rattle.answers.specs.declared.asking.Reply.TheVariants.{Set, Tokens as TokenList, Leaf as LeafReply}
+use Rattle.script_lines.specs.declared.questions.Ask.{Ask}
+use Rattle.script_lines.specs.declared.questions.Ask.TheVariants.{Within, InContext, Expected, Recovery, Tokens, Leaf, Picture}
+use Rattle.script_lines.specs.declared.questions.Question.{Question}
+use Rattle.answers.specs.declared.replies.Reply.{Reply}
+use Rattle.answers.specs.declared.replies.Reply.TheVariants.{Set, Tokens as TokenList, Leaf as LeafReply, Picture as PictureReply}
 use Rattle.answers.specs.declared.shown.ShownToken.{ShownToken}
 use Rattle.answers.specs.Leaves.{LeafAnswer}
 
@@ -27,17 +27,18 @@ SetAnswer n (Within s) = Answers (StateFault n s) (WithinRule n s)
 SetAnswer n (InContext s chain) = Answers (Fault n s chain.items) (InContextSet n s (follow_states n chain.items))
 SetAnswer n (Expected s chain) = Answers (Fault n s chain.items) (ExpectedSet n s (follow_states n chain.items))
 SetAnswer n (Recovery chain) = Answers (ChainFault n chain.items) (RecoverySet n (follow_states n chain.items))
-SetAnswer n Tokens = λ r. ⊥
-SetAnswer n (Leaf l) = λ r. ⊥
+SetAnswer n a = λ r. ⊥
 
 -- A question about the net is answered by its set, one for the tokens by those that are shown, a leaf by what the leaf
--- lists do with it.
+-- lists do with it, one for the picture by the picture.
 abbrev pub Answer : Net → List ShownToken → ℕ → Ask → Reply → Type 0
 Answer n shown room a (Set r) = SetAnswer n a r
 Answer n shown room Tokens (TokenList v) = v.items ≡ shown
 Answer n shown room a (TokenList v) = ⊥
 Answer n shown room (Leaf l) (LeafReply r) = LeafAnswer room l r
 Answer n shown room a (LeafReply r) = ⊥
+Answer n shown room Picture PictureReply = Unit {0}
+Answer n shown room a PictureReply = ⊥
 
 -- how many leaves there is room for after a question, and after several
 abbrev pub room_after : Ask → ℕ → ℕ

@@ -5,12 +5,12 @@ use Rattle.errors.specs.declared.denial.Denial.TheVariants.{NoLeafFree}
 use Rattle.leaves.specs.Leaves.{LeafFields}
 use Rattle.leaves.specs.LeafLines.{leaf_line}
 use Rattle.fixed_vec.specs.Lists.{behind}
-use Rattle.answers.specs.declared.leaf_lists.LeafLists.{LeafLists}
-use Rattle.answers.specs.declared.leaves.AddedLeaf.{AddedLeaf}
+use Rattle.fixed_vec.specs.declared.bounded_list.BoundedList.{BoundedList}
+use Rattle.answers.specs.declared.leaf_lists.AddedLeaf.{AddedLeaf}
 
--- how many more leaves the lists take
-abbrev pub room : LeafLists → ℕ
-room l = length (behind l.table)
+-- how many more leaves the table of the lists takes
+abbrev pub room : {T : Type 0} → BoundedList T → ℕ
+room t = length (behind t)
 
 -- While there is room, the leaf is answered, and its line; else it is denied.
 abbrev pub LeafAnswer : ℕ → LeafFields → Result AddedLeaf Denial → Type 0

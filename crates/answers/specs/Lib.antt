@@ -1,4 +1,5 @@
-pub mod Asking
-pub mod Tapes
-pub mod Leaves
 pub mod Answers
+pub mod Asking
+pub mod Leaves
+pub mod NetAnswers
+pub mod Tapes

@@ -9,14 +9,13 @@ use Rattle.token.specs.declared.token_type.Span.{Span}
 use Rattle.token.specs.Tokens.{Fields}
 use Rattle.token_stream.specs.Tapes.{IsTape, token_at}
 use Rattle.token_stream.specs.Streams.{filtered}
-use Rattle.script.specs.declared.question.Ask.{Ask}
-use Rattle.script.specs.declared.question.Ask.TheVariants.{Tokens}
-use Rattle.script.specs.declared.script_line.Show.{Show}
-use Rattle.script.specs.declared.script_line.Show.TheVariants.{All, Channel0}
-use Rattle.script.specs.declared.token_row.TokenRow.{TokenRow}
-use Rattle.script.specs.Asking.{Asking}
+use Rattle.script_lines.specs.declared.questions.Ask.{Ask}
+use Rattle.script_lines.specs.declared.questions.Ask.TheVariants.{Tokens}
+use Rattle.script_lines.specs.declared.options.Show.{Show}
+use Rattle.script_lines.specs.declared.options.Show.TheVariants.{All, Channel0}
+use Rattle.script_lines.specs.declared.token_rows.TokenRow.{TokenRow}
 use Rattle.script.specs.Contents.{Content}
-use Rattle.script.specs.TokenRows.{WritesTape}
+use Rattle.script_lines.specs.TokenRows.{WritesTape}
 use Rattle.answers.specs.declared.shown.ShownToken.{ShownToken}
 
 -- what a token that is printed says of itself
@@ -47,9 +46,9 @@ abbrev pub RowsAnswered : {S : Type 0} → (S → Option Span) → List (TokenRo
 RowsAnswered kept rows show r = DeniesFirst (RowsFault kept rows) r × IfOk r (λ v. ShowsRows kept rows show v.items)
 
 -- A script has a tape of events if it has a row of one, and else of words.
-pub record TapeAnswered (k : Content) (show : Show) (r : Result (Vec ShownToken) Denial) : Type 0 where
-  pub lanes : 0 < length k.lanes → RowsAnswered (λ _. None) k.lanes show r
-  pub words : length k.lanes ≡ 0 → RowsAnswered Some k.words show r
+pub record TapeAnswered (k : Content) (r : Result (Vec ShownToken) Denial) : Type 0 where
+  pub lanes : 0 < length k.lanes → RowsAnswered (λ _. None) k.lanes k.show r
+  pub words : length k.lanes ≡ 0 → RowsAnswered Some k.words k.show r
 
 abbrev pub asks_tokens : Ask → Bool
 asks_tokens Tokens = true
@@ -59,10 +58,10 @@ abbrev pub has_rows : Content → Bool
 has_rows k = nat_lt 0 (length k.words) || nat_lt 0 (length k.lanes)
 
 -- something of the script needs a tape: a row of it, or a question for its tokens
-abbrev pub needs_tape : Content → Asking → Bool
-needs_tape k a = has_rows k || list_any (λ q. asks_tokens q.ask) a.questions
+abbrev pub needs_tape : Content → Bool
+needs_tape k = has_rows k || list_any (λ q. asks_tokens q.ask) k.questions
 
 -- Only a tape that is needed is checked.
-abbrev pub TapeSaid : Content → Asking → Option (Result (Vec ShownToken) Denial) → Type 0
-TapeSaid k a None = needs_tape k a ≡ false
-TapeSaid k a (Some r) = (needs_tape k a ≡ true) × TapeAnswered k a.show r
+abbrev pub TapeSaid : Content → Option (Result (Vec ShownToken) Denial) → Type 0
+TapeSaid k None = needs_tape k ≡ false
+TapeSaid k (Some r) = (needs_tape k ≡ true) × TapeAnswered k r

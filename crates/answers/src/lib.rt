@@ -1,9 +1,18 @@
-// What a script is answered: the verdict on its net, and the sets that it asks for.
 #![tactic(auto)]
+//! What a script is answered: the verdict on its net, what is shown of its tape, the sets that it asks for,
+//! and the leaves that it adds.
 
-pub mod answer;
-pub mod asking;
-pub mod leaf_lists;
-pub mod leaves;
-pub mod shown;
-pub mod tape;
+mod leaf_lists;
+mod net_answers;
+mod pictures;
+mod replies;
+mod script_answers;
+mod shown;
+mod tape;
+
+pub use leaf_lists::{AddedLeaf, LeafLists};
+pub use net_answers::{NetAnswer, Verdict};
+pub use pictures::Picture;
+pub use replies::Reply;
+pub use script_answers::{Replies, ScriptAnswer};
+pub use shown::ShownToken;

@@ -1,15 +1,14 @@
-// What a stream shows, as a list.
+//! What a stream shows, as a list.
 ghost use Rattle.std.specs.Prelude.{◌≡◌, IfOk, map};
 ghost use Rattle.token_stream.specs.Streams.{KeepsNet};
 ghost use Rattle.answers.specs.Tapes.{token_fields};
 
 use std::alloc::{AllocError, Global};
 use std::fmt;
-use token::Token;
-use token::{Span, TokenType};
+use token::{Span, Token, TokenType};
 use token_stream::TokenStream;
 
-// A token of either kind, as it is printed.
+/// A token of either kind, as it is printed.
 #[derive(Clone, Copy, PartialEq, Eq, Debug)]
 pub struct ShownToken {
     pub token_type: TokenType,
@@ -33,7 +32,7 @@ impl ShownToken {
     }
 }
 
-// Its token index, and its row as a script gives it.
+/// Its token index, and its row as a script gives it.
 impl fmt::Display for ShownToken {
     fn fmt<W: fmt::Write>(&self, f: &mut fmt::Formatter<W>) -> fmt::Result {
         let index = self.index.map_or(-1, i32::from);

@@ -1,26 +1,21 @@
-// The tape that the rows of a script write, and what is shown of it.
+//! The tape that the rows of a script write, and what is shown of it.
 ghost use Rattle.std.specs.Prelude.{◌≡◌, IfOk, IfNone, IfSome, None, Some, map};
 ghost use Rattle.std.specs.List.{list_any};
 ghost use Rattle.token.specs.Kinds.{common_fields};
 ghost use Rattle.errors.specs.Denials.{DeniesFirst};
 ghost use Rattle.token_stream.specs.Tapes.{IsTape, TapeFault};
-ghost use Rattle.script.specs.Asking.{asking};
 ghost use Rattle.script.specs.Contents.{content};
-ghost use Rattle.script.specs.TokenRows.{WritesTape};
+ghost use Rattle.script_lines.specs.TokenRows.{WritesTape};
 ghost use Rattle.answers.specs.Tapes.{Numbered, RowsAnswered, RowsFault, TapeSaid, asks_tokens, has_rows, needs_tape, shown_by, token_fields};
 ghost use Rattle.errors.specs.declared.denial.Denial.TheVariants.{FaultyTape};
 
 use crate::shown::{ShownToken, list_shown};
-use errors::denial::Denial;
-use script::question::{Ask, Question};
-use script::script::Script;
-use script::script_line::Show;
-use script::token_row::{LaneRow, TokenRow, WordRow};
+use errors::Denial;
+use script::Script;
+use script_lines::{Ask, LaneRow, Question, Show, TokenRow, WordRow};
 use std::alloc::{AllocError, Global};
-use token::{CommonToken, KeptSpan, LaneFactory, WordFactory};
-use token::{Token, TokenFactory};
-use token_stream::Filter;
-use token_stream::TokenTable;
+use token::{CommonToken, KeptSpan, LaneFactory, Token, TokenFactory, WordFactory};
+use token_stream::{Filter, TokenTable};
 
 // The tokens that the rows write, each with its place as its token index; None if they write no tape.
 fn tokens_of<S: KeptSpan + Copy>(
@@ -107,17 +102,17 @@ fn has_rows(script: &Script) -> bool
 
 // Whether something of the script needs a tape.
 fn needs_tape(script: &Script) -> bool
-    ensures { result ≡ needs_tape (content script.now) (asking script.now) }
+    ensures { result ≡ needs_tape (content script.now) }
 {
     has_rows(script) || any_asks_tokens(script.questions())
 }
 
 // What is shown of the script's tape, or its denial; None if nothing needs a tape.
-pub fn answer_tape(
+pub(crate) fn answer_tape(
     heap: Global,
     script: &Script,
 ) -> Result<Option<Result<Vec<ShownToken>, Denial>>, AllocError>
-    ensures { IfOk result (TapeSaid (content script.now) (asking script.now)) }
+    ensures { IfOk result (TapeSaid (content script.now)) }
 {
     if !needs_tape(script) {
         return Ok(None);

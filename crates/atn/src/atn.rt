@@ -8,7 +8,7 @@ ghost use Rattle.atn.specs.Walks.{HasLeftRecursion};
 
 use crate::recursion::is_left_recursive;
 use atn_graph::{AtnState, Graph, Rule, StateKind, Tables, Transition};
-use errors::denial::Denial;
+use errors::Denial;
 
 /// A net that keeps every rule: whoever holds one needs no further check. It is about 90 KB large:
 /// hand it on by reference.

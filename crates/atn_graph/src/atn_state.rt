@@ -2,7 +2,7 @@
 ghost use Rattle.std.specs.Prelude.{◌≡◌};
 ghost use Rattle.atn_graph.specs.Kinds.{KindNumbered, is_start, is_stop};
 
-use errors::denial::Denial;
+use errors::Denial;
 
 /// The kinds of states, by the names and numbers of ANTLR's serialized networks.
 #[derive(Clone, Copy, PartialEq, Eq, Default, Debug)]

@@ -13,7 +13,7 @@ use crate::lists::Lists;
 use crate::read::read;
 use crate::tables::Tables;
 use crate::transition::Transition;
-use errors::denial::Denial;
+use errors::Denial;
 
 /// A net that keeps every rule but, perhaps, that no rule is left-recursive. It is about 90 KB
 /// large: hand it on by reference.

@@ -8,7 +8,7 @@ ghost use Rattle.atn_graph.specs.Rules.{kind_fits, RuleFits, PlaceFits, IsSoundN
 use crate::atn_state::AtnState;
 use crate::limits::{MAX_EDGES, MAX_INTERVALS, MAX_RULES, MAX_STATES};
 use crate::transition::{Transition, TransitionKind};
-use errors::denial::Denial;
+use errors::Denial;
 use fixed_vec::FixedVec;
 use interval_set::Interval;
 

@@ -1,5 +1,5 @@
 -- The numbers of the denials, the order in which they are answered, and which of several is answered.
-use Rattle.std.specs.Prelude.{◌≡◌, ℕ, suc, ◌<◌, ◌==◌, true, List, [], ◌∷◌, is_ok, Err, Result, if◌then◌else◌}
+use Rattle.std.specs.Prelude.{◌≡◌, ℕ, suc, ◌<◌, ◌==◌, true, List, [], ◌∷◌, ◌++◌, codes, decimal, is_ok, Err, Result, if◌then◌else◌}
 use Rattle.errors.specs.declared.denial.Denial.{Denial}
 use Rattle.errors.specs.declared.denial.Denial.TheVariants.{ShortTable, OutsideLimits, BrokenRule, LeftRecursion, FaultyChain, FaultyTape, NoRuleOpen, StateOutside, WrongRule, TooManyRules, NoLeafFree, WrongSearch, WrongReport, SetValue}
 
@@ -18,6 +18,10 @@ denial_number NoLeafFree = 11
 denial_number WrongSearch = 12
 denial_number WrongReport = 13
 denial_number SetValue = 14
+
+-- what is printed of a denial
+abbrev pub denial_text : Denial → List ℕ
+denial_text d = codes "denied " ++ decimal (denial_number d)
 
 -- The denials in the order in which they are answered: that of their numbers.
 abbrev pub in_order : List Denial

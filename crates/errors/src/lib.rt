@@ -1,3 +1,6 @@
 #![tactic(auto)]
-// Why a call is denied: one enum for every layer.
-pub mod denial;
+//! Why a call is denied: one enum for every layer.
+
+mod denial;
+
+pub use denial::Denial;

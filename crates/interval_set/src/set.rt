@@ -4,7 +4,7 @@ ghost use Rattle.fixed_vec.specs.Items.{items};
 ghost use Rattle.interval_set.specs.Intervals.{from_to, inside, numbers, rising};
 
 use crate::interval::{EPSILON, Interval, MAX_TYPE};
-use errors::denial::Denial;
+use errors::Denial;
 use fixed_vec::FixedVec;
 
 // How many intervals a set has at most: it has the most where it holds every second number.

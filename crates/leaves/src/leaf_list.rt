@@ -5,7 +5,7 @@ ghost use Rattle.leaves.specs.Leaves.{LeafFields};
 ghost use Rattle.leaves.specs.Adding.{Grown};
 
 use crate::leaf::Leaf;
-use errors::denial::Denial;
+use errors::Denial;
 
 /// Takes the leaves of the tree, in their order.
 pub trait LeafList {

@@ -5,7 +5,7 @@ ghost use Rattle.leaves.specs.Leaves.{LeafFields};
 
 use crate::leaf::Leaf;
 use crate::leaf_list::LeafList;
-use errors::denial::Denial;
+use errors::Denial;
 use fixed_vec::BoundedList;
 
 /// Leaves in lent memory, one in each place.

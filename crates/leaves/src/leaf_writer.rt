@@ -7,7 +7,7 @@ ghost use Rattle.leaves.specs.Single.{written_prop};
 use crate::leaf::Leaf;
 use crate::leaf_list::LeafList;
 use crate::lines::{LINE_LENGTH, write_line};
-use errors::denial::Denial;
+use errors::Denial;
 
 /// Leaves as lines of text: the first `len` bytes of the memory hold the lines.
 #[derive(Drop)]

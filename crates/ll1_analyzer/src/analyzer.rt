@@ -7,9 +7,8 @@ ghost use Rattle.ll1_analyzer.specs.Answers.{HoldsExactly, KeepsNet};
 ghost use Rattle.ll1_analyzer.specs.Sets.{Within};
 
 use crate::lookahead::{EPSILON, Lookahead};
-use atn::atn::Atn;
-use atn::nullables::NullableStates;
-use interval_set::set::IntervalSet;
+use atn::{Atn, NullableStates};
+use interval_set::IntervalSet;
 
 /// Works each answer out by walks over the net. It keeps the nullable states alone: those from
 /// which a walk on an empty stack can end on a stop state.

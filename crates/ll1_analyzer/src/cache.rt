@@ -8,8 +8,8 @@ ghost use Rattle.ll1_analyzer.specs.Kept.{SlotsWithin};
 ghost use Rattle.ll1_analyzer.specs.Sets.{Within};
 
 use crate::lookahead::Lookahead;
-use atn::atn::Atn;
-use interval_set::set::IntervalSet;
+use atn::Atn;
+use interval_set::IntervalSet;
 
 // How many sets a cache keeps.
 const SLOTS: usize = 16;

@@ -7,9 +7,9 @@ ghost use Rattle.ll1_analyzer.specs.Chains.{first_follow};
 ghost use Rattle.ll1_analyzer.specs.Listing.{follow, ReadsCalls, Lists};
 
 use crate::lookahead::Lookahead;
-use atn_graph::transition::{Move, Transition};
-use errors::denial::Denial;
-use fixed_vec::fixed_vec::FixedVec;
+use atn_graph::{Move, Transition};
+use errors::Denial;
+use fixed_vec::FixedVec;
 
 /// How many states a chain of invoking states holds at most.
 pub const MAX_CHAIN: usize = 63;

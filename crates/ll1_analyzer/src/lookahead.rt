@@ -7,10 +7,9 @@ ghost use Rattle.atn_graph.specs.Net.{state_at, edges_of};
 ghost use Rattle.ll1_analyzer.specs.Answers.{HoldsExactly, KeepsNet};
 ghost use Rattle.ll1_analyzer.specs.Sets.{Within};
 
-use atn::atn::Atn;
-use atn_graph::atn_state::StateKind;
-use atn_graph::transition::Transition;
-use interval_set::set::IntervalSet;
+use atn::Atn;
+use atn_graph::{StateKind, Transition};
+use interval_set::IntervalSet;
 
 /// The end of the input.
 pub const EOF: i32 = -1;

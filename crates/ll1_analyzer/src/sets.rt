@@ -8,8 +8,8 @@ ghost use Rattle.ll1_analyzer.specs.Sets.{Within, InContext, Joined, Expected, R
 
 use crate::chain::follow_list;
 use crate::lookahead::{EOF, EPSILON, Lookahead};
-use errors::denial::Denial;
-use interval_set::set::IntervalSet;
+use errors::Denial;
+use interval_set::IntervalSet;
 
 /// The within-rule set of s. Denied with `StateOutside` if s lies outside the net.
 pub fn next_tokens<L: Lookahead>(l: &mut L, s: usize) -> Result<IntervalSet, Denial>

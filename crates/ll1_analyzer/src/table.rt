@@ -7,8 +7,8 @@ ghost use Rattle.atn.specs.Checked.{net_of};
 
 use crate::analyzer::LL1Analyzer;
 use crate::lookahead::Lookahead;
-use atn::atn::Atn;
-use interval_set::set::IntervalSet;
+use atn::Atn;
+use interval_set::IntervalSet;
 use std::alloc::{AllocError, Global};
 
 /// Keeps the set of each state, worked out beforehand.

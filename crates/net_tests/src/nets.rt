@@ -1,7 +1,7 @@
 //! Nets that the tests use.
 use atn::Atn;
 use atn_graph::{Counts, EdgeRow, RuleRow, StateRow, Tables};
-use errors::denial::Denial;
+use errors::Denial;
 use interval_set::Interval;
 use std::test::Fail;
 

@@ -1,6 +1,6 @@
 //! Sets of numbers, on the inputs on which the crate that this is modelled on goes wrong, and at
 //! the limits.
-use errors::denial::Denial;
+use errors::Denial;
 use interval_set::{Interval, IntervalSet};
 use std::process::Abort;
 use std::test::Fail;

@@ -1,7 +1,7 @@
 //! A listener that keeps something of the types expected.
 ghost use Rattle.std.specs.Prelude.{◌≡◌, Bool, false, ◌||◌, negsuc};
 
-use interval_set::set::IntervalSet;
+use interval_set::IntervalSet;
 use reports::{Counter, Listener, Report};
 
 // Keeps whether EOF was expected at any fault so far.

@@ -1,6 +1,6 @@
 //! The text that a writer of leaves writes.
 use crate::owners::add_two;
-use errors::denial::Denial;
+use errors::Denial;
 use leaves::{Leaf, LeafKind, LeafList, LeafWriter};
 use std::test::*;
 use token::TokenType;

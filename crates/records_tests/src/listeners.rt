@@ -1,7 +1,7 @@
 //! What listeners are told of a fault.
 use crate::made::report;
 use crate::owners::eof_at_either;
-use interval_set::set::IntervalSet;
+use interval_set::IntervalSet;
 use reports::{Counter, Recorder, Report, ReportKind, notify_error_listeners};
 use std::test::*;
 

@@ -1,5 +1,5 @@
 //! Leaves and reports that the tests use.
-use interval_set::set::IntervalSet;
+use interval_set::IntervalSet;
 use leaves::{Leaf, LeafKind};
 use reports::{Report, ReportKind};
 use std::test::*;

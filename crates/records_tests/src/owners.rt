@@ -7,7 +7,7 @@ ghost use Rattle.reports.specs.Reports.{expects};
 
 use crate::eof_watch::EofWatch;
 use fixed_vec::BoundedList;
-use interval_set::set::IntervalSet;
+use interval_set::IntervalSet;
 use leaves::{Leaf, LeafList, LeafTable, LeafWriter};
 use reports::{Counter, Listener, Recorder, Report, ReportKind, notify_error_listeners};
 

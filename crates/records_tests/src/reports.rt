@@ -1,5 +1,5 @@
 //! What a report says of the types that were expected.
-use interval_set::set::IntervalSet;
+use interval_set::IntervalSet;
 use reports::{Report, ReportKind};
 use std::test::*;
 use token::TokenType;

@@ -1,9 +1,9 @@
 //! Tables of leaves and of reports, filled to their last place.
 use crate::made::{leaf, report};
 use crate::owners::{add_two, report_two};
-use errors::denial::Denial;
+use errors::Denial;
 use fixed_vec::BoundedList;
-use interval_set::set::IntervalSet;
+use interval_set::IntervalSet;
 use leaves::{LeafList, LeafTable};
 use reports::{Counter, Listener, Recorder};
 use std::test::*;

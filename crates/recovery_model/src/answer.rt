@@ -4,10 +4,8 @@ ghost use Rattle.recovery_model.specs.Calls.{answer_number, answer_of};
 
 use errors::Denial;
 use fixed_vec::FixedVec;
+use ll1_analyzer::MAX_CHAIN;
 use token::TokenFields;
-
-/// The most invoking states in a chain: one less than there may be open rules.
-pub const MAX_CHAIN: usize = 63;
 
 /// The invoking states of open rules, innermost first, at most 63; a net has at most 512 states, so 16 bits hold each.
 pub type Chain = FixedVec<u16, MAX_CHAIN>;

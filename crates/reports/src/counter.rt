@@ -3,7 +3,7 @@ ghost use Rattle.std.specs.Prelude.{◌≡◌, [], None};
 
 use crate::listener::Listener;
 use crate::report::Report;
-use interval_set::set::IntervalSet;
+use interval_set::IntervalSet;
 
 /// Counts reports, and keeps the latest.
 #[derive(Clone, Copy, PartialEq, Eq, Debug)]

@@ -5,7 +5,7 @@ ghost use Rattle.reports.specs.Heard.{Told, Heard, Hears, told_at, told_of};
 ghost use Rattle.reports.specs.Reports.{expects};
 
 use crate::report::{Report, ReportKind};
-use interval_set::set::IntervalSet;
+use interval_set::IntervalSet;
 
 /// Hears each report, with the set of the types that were expected, and never refuses one.
 pub trait Listener {

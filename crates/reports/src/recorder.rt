@@ -5,7 +5,7 @@ ghost use Rattle.reports.specs.Heard.{Listing, lists};
 use crate::counter::Counter;
 use crate::listener::Listener;
 use crate::report::Report;
-use interval_set::set::IntervalSet;
+use interval_set::IntervalSet;
 
 /// Lists the first reports, in the first `len` places of the memory, and counts all of them.
 // It holds the memory and no `BoundedList`, so that whoever lent the memory knows what is in it.

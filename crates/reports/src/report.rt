@@ -4,7 +4,7 @@ ghost use Rattle.interval_set.specs.Intervals.{smallest};
 ghost use Rattle.interval_set.specs.Members.{holds};
 ghost use Rattle.reports.specs.Reports.{report_number, expects, report_at, smallest_type, types_in};
 
-use interval_set::set::IntervalSet;
+use interval_set::IntervalSet;
 use token::TokenType;
 
 /// What the fault was.

@@ -10,10 +10,9 @@ ghost use Rattle.samples.specs.Pass.{pass, PassSets};
 use crate::rows::{EDGES, RULES, STATES};
 use atn::Atn;
 use atn_graph::{Counts, Tables};
-use errors::denial::Denial;
+use errors::Denial;
 use interval_set::IntervalSet;
-use ll1_analyzer::analyzer::LL1Analyzer;
-use ll1_analyzer::sets::next_tokens;
+use ll1_analyzer::{LL1Analyzer, next_tokens};
 
 /// The pass net, read from its rows and checked. It is never denied, and the within-rule sets of four
 /// of its states are known.

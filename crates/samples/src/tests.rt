@@ -1,6 +1,6 @@
 // The sets of the pass net, as intervals.
 use crate::pass::pass_next_tokens;
-use errors::denial::Denial;
+use errors::Denial;
 use interval_set::Interval;
 use std::process::Abort;
 use std::test::Fail;

@@ -1,9 +1,3 @@
-pub mod Answers
-pub mod Asking
 pub mod Contents
-pub mod Lines
-pub mod Numbers
-pub mod Questions
 pub mod Rows
-pub mod TokenRows
-pub mod Words
+pub mod Taking

@@ -1,13 +1,13 @@
 -- The rows of a table, and one more.
 use Rattle.std.specs.Prelude.{◌≡◌, ℕ, ◌⊎◌, List, [], ◌∷◌, ◌++◌, length, Some, None, Ok, Err, Option, Result}
-use Rattle.script.specs.declared.error.Fault.{Fault}
-use Rattle.script.specs.declared.error.Fault.TheVariants.{FullTable, Memory}
+use Rattle.script.specs.declared.faults.Fault.{Fault}
+use Rattle.script.specs.declared.faults.Fault.TheVariants.{FullTable, Memory}
 
 -- one more at the end
 abbrev pub pushed : {X : Type 0} → List X → X → List X
 pushed xs x = xs ++ x ∷ []
 
--- A table takes a million rows.
+-- A table takes a million rows, and no more leaves have room.
 abbrev pub full : ℕ
 full = 1000000
 

@@ -1,19 +1,10 @@
-// Scripts: the text form of a net, of a tape and of what is asked about them, read into tables and
-// questions, and what is answered about the net.
 #![tactic(auto)]
+//! Scripts: what the lines of a text make, one taken in after the other: the tables of a net, the rows of a
+//! tape, and what is asked about them.
 
-pub mod answer;
-pub mod apply;
-pub mod directive;
-pub mod error;
-pub mod keyword;
-pub mod leaf_row;
-pub mod line;
-pub mod number;
-pub mod parse;
-pub mod question;
+mod faults;
 mod rows;
-pub mod script;
-pub mod script_line;
-pub mod tables;
-pub mod token_row;
+mod scripts;
+
+pub use faults::{Fault, ScriptError};
+pub use scripts::{MAX_ROWS, Script};

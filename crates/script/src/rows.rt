@@ -1,8 +1,9 @@
+//! A table of a script.
 ghost use Rattle.std.specs.Prelude.{◌≡◌, ◌==◌, ◌≤◌, List, [], length, vec_len};
-ghost use Rattle.script.specs.Rows.{RowAdded};
+ghost use Rattle.script.specs.Rows.{RowAdded, full};
 
-use crate::error::Fault;
-use crate::script::MAX_ROWS;
+use crate::faults::Fault;
+use crate::scripts::MAX_ROWS;
 use std::alloc::Global;
 use std::marker::Model;
 
@@ -17,7 +18,7 @@ impl<T> Model for Rows<T> {
 
     ghost view = { λ r. r.rows.items };
 
-    ghost invariant = { λ r. vec_len r.rows ≤ 1000000 };
+    ghost invariant = { λ r. vec_len r.rows ≤ full };
 }
 
 impl<T: Drop> Rows<T> {
@@ -42,7 +43,7 @@ impl<T: Drop> Rows<T> {
 
     pub(crate) fn len(&self) -> usize
         ensures value { result ≡ length self.now }
-        ensures few { result ≤ 1000000 }
+        ensures bounded { result ≤ full }
     {
         self.rows.len()
     }

@@ -1,5 +1,5 @@
-// Texts that are no scripts, and what is said of each.
-use script::parse::parse;
+//! Texts that are no scripts, and what is said of each.
+use script::Script;
 use std::alloc::Global;
 use std::process::Abort;
 use std::test::*;
@@ -89,30 +89,30 @@ const NO_NUMBER: [(&str, &str); 6] = [
     ),
     (
         "net 1\n\nrule 1 9223372036854775808",
-        "line 3: expected rule START STOP, two numbers",
+        "line 3: expected numbers of 64 bits, from -9223372036854775808 to 9223372036854775807",
     ),
     (
         "net 1\n\nrule -9223372036854775809 1",
-        "line 3: expected rule START STOP, two numbers",
+        "line 3: expected numbers of 64 bits, from -9223372036854775808 to 9223372036854775807",
     ),
 ];
 
 const UNKNOWN: [(&str, &str); 4] = [
     (
         "Net 1",
-        "line 1: expected net, counts, rule, state, edge, interval, word, lane, leaves or summary",
+        "line 1: expected net, counts, rule, state, edge, interval, word, lane, leaves, summary, lookahead, show, within, in-context, expected, recovery, tokens, leaf or picture",
     ),
     (
         "net 1\nnets 1\n",
-        "line 2: expected net, counts, rule, state, edge, interval, word, lane, leaves or summary",
+        "line 2: expected net, counts, rule, state, edge, interval, word, lane, leaves, summary, lookahead, show, within, in-context, expected, recovery, tokens, leaf or picture",
     ),
     (
         "net 1\n-\nrule",
-        "line 2: expected net, counts, rule, state, edge, interval, word, lane, leaves or summary",
+        "line 2: expected net, counts, rule, state, edge, interval, word, lane, leaves, summary, lookahead, show, within, in-context, expected, recovery, tokens, leaf or picture",
     ),
     (
         "net 1\n7 # 8",
-        "line 2: expected net, counts, rule, state, edge, interval, word, lane, leaves or summary",
+        "line 2: expected net, counts, rule, state, edge, interval, word, lane, leaves, summary, lookahead, show, within, in-context, expected, recovery, tokens, leaf or picture",
     ),
 ];
 
@@ -143,7 +143,7 @@ const NO_QUESTION: [(&str, &str); 11] = [
         "line 2: expected expected S C.., one number or more",
     ),
     (
-        "net 1\nrecovery",
+        "net 1\nrecovery x",
         "line 2: expected recovery C.., one number or more",
     ),
     (
@@ -187,6 +187,12 @@ const NO_LEAF: [&str; 15] = [
     "leaf 1 1 0 1 0 1 1000001",
 ];
 
+// Calls of the parser.
+const CALLS: [&str; 10] = [
+    "state 1", "expected", "recovery", "enter 1", "leave", "match 1", "wildcard", "sync",
+    "report 1", "recover",
+];
+
 const OTHER_KIND: [(&str, &str); 2] = [
     (
         "net 1\nword 1 0 1 0 0 0\nlane -1 0 1 0",
@@ -201,42 +207,42 @@ const OTHER_KIND: [(&str, &str); 2] = [
 const TOO_LATE: [(&str, &str); 8] = [
     (
         "net 1\nwithin 0\nrule 1",
-        "line 3: expected a question: rows and options come before the first one",
+        "line 3: expected within, in-context, expected, recovery, tokens, leaf or picture: rows and options come before questions",
     ),
     (
         "net 1\nwithin 0\nwithn 1",
-        "line 3: expected a question: rows and options come before the first one",
+        "line 3: expected within, in-context, expected, recovery, tokens, leaf or picture: rows and options come before questions",
     ),
     (
         "net 1\nwithin 0\nrule 0 1",
-        "line 3: expected a question: rows and options come before the first one",
+        "line 3: expected within, in-context, expected, recovery, tokens, leaf or picture: rows and options come before questions",
     ),
     (
         "net 1\nwithin 0\nrecovery 0\nnet 2",
-        "line 4: expected a question: rows and options come before the first one",
+        "line 4: expected within, in-context, expected, recovery, tokens, leaf or picture: rows and options come before questions",
     ),
     (
         "within 0\nnet 1",
-        "line 2: expected a question: rows and options come before the first one",
+        "line 2: expected within, in-context, expected, recovery, tokens, leaf or picture: rows and options come before questions",
     ),
     (
         "net 1\nwithin 0\nlookahead table",
-        "line 3: expected a question: rows and options come before the first one",
+        "line 3: expected within, in-context, expected, recovery, tokens, leaf or picture: rows and options come before questions",
     ),
     (
         "net 1\ntokens\nword -1 0 1 0 0 0",
-        "line 3: expected a question: rows and options come before the first one",
+        "line 3: expected within, in-context, expected, recovery, tokens, leaf or picture: rows and options come before questions",
     ),
     (
         "net 1\nwithin 0\nshow all",
-        "line 3: expected a question: rows and options come before the first one",
+        "line 3: expected within, in-context, expected, recovery, tokens, leaf or picture: rows and options come before questions",
     ),
 ];
 
 // Each text is refused with its message.
 fn refused(rt: &impl Abort, heap: Global, cases: &[(&str, &str)]) -> Result<(), Fail> {
     for (text, message) in cases {
-        let error = parse(heap, *text)
+        let error = Script::parse(heap, *text)
             .err()
             .ok_or("a malformed script was taken")?;
         assert_eq!(rt; error.to_string(heap)?.as_str(), *message, "{}", *text);
@@ -280,6 +286,17 @@ fn numbers_that_are_no_leaf(rt: HostRuntime) -> Result<(), Fail> {
     for line in NO_LEAF {
         let text = format!(in heap; "net 1\n{line}")?;
         refused(&rt, heap, &[(text.as_str(), LEAF)])?;
+    }
+    Ok(())
+}
+
+#[test]
+fn calls_of_the_parser(rt: HostRuntime) -> Result<(), Fail> {
+    let heap = rt.alloc();
+    for line in CALLS {
+        let text = format!(in heap; "net 1\n{line}")?;
+        let message = "line 2: calls of the parser are not known yet";
+        refused(&rt, heap, &[(text.as_str(), message)])?;
     }
     Ok(())
 }

@@ -1,4 +1,4 @@
-// Lines that add a leaf, and what is printed for each.
+//! Lines that add a leaf, and what is printed for each.
 use crate::questions::{PASS, printed};
 use std::alloc::Global;
 use std::process::Abort;

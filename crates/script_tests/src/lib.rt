@@ -1,4 +1,4 @@
-// What the text of a script means, on examples.
+//! What the text of a script means, on examples.
 #![tactic(auto)]
 
 #[cfg(test)]

@@ -1,5 +1,6 @@
-// Scripts with many rows.
-use script::parse::parse;
+//! Scripts with many rows.
+use answers::NetAnswer;
+use script::Script;
 use std::alloc::{AllocError, Global};
 use std::test::*;
 
@@ -23,8 +24,8 @@ fn more_rows_than_a_net_may_have(rt: HostRuntime) -> Result<(), Fail> {
         ("interval 1 1\n", 1025),
     ] {
         let text = script_of(heap, row, n)?;
-        let script = parse(heap, text.as_str())?;
-        let answer = script.answer().ok_or("no answer")?;
+        let script = Script::parse(heap, text.as_str())?;
+        let answer = NetAnswer::of(&script).ok_or("no answer")?;
         assert_eq!(rt;
             answer.to_string(heap)?.as_str(),
             "net denied 2\n",
@@ -40,7 +41,7 @@ fn more_rows_than_a_net_may_have(rt: HostRuntime) -> Result<(), Fail> {
 fn more_rows_than_a_script_may_have(rt: HostRuntime) -> Result<(), Fail> {
     let heap = rt.alloc();
     let text = script_of(heap, "rule 0 0\n", 1_000_001)?;
-    let error = parse(heap, text.as_str())
+    let error = Script::parse(heap, text.as_str())
         .err()
         .ok_or("a million and one rows were taken")?;
     assert_eq!(rt;

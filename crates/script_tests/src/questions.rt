@@ -1,6 +1,6 @@
-// Questions about the pass net, and what is printed for each.
-use answers::answer::ScriptAnswer;
-use script::parse::parse;
+//! Questions about the pass net, and what is printed for each.
+use answers::ScriptAnswer;
+use script::Script;
 use std::alloc::Global;
 use std::process::Abort;
 use std::test::*;
@@ -38,7 +38,7 @@ const ASKED: [(&str, &str); 18] = [
 
 // What is printed for the script.
 pub(crate) fn printed(heap: Global, text: &str) -> Result<String, Fail> {
-    let script = parse(heap, text)?;
+    let script = Script::parse(heap, text)?;
     let answer = ScriptAnswer::of(heap, &script)?.ok_or("no answer")?;
     Ok(answer.to_string(heap)?)
 }
@@ -118,6 +118,19 @@ fn about_a_denied_net(rt: HostRuntime) -> Result<(), Fail> {
     let heap = rt.alloc();
     let printed = printed(heap, "net 1\nwithin 0\nrecovery 0\n")?;
     assert_eq!(rt; printed.as_str(), "net denied 2\n");
+    Ok(())
+}
+
+// The picture of a net with two states and an edge.
+#[test]
+fn of_the_picture(rt: HostRuntime) -> Result<(), Fail> {
+    let heap = rt.alloc();
+    let text = "net 2\nrule 0 1\nstate 0 2 1\nstate 0 7 0\nedge 2 1 1 2\n picture\n";
+    let printed = printed(heap, text)?;
+    assert_eq!(rt;
+        printed.as_str(),
+        "net ok\npicture:\ndigraph net {\n  rankdir=LR;\n  subgraph cluster_0 {\n    label=\"rule 0\";\n    s0 [label=\"0\\nRuleStart\"];\n    s1 [label=\"1\\nRuleStop\", peripheries=2];\n  }\n  s0 -> s1 [label=\"1..2\"];\n}\n"
+    );
     Ok(())
 }
 

@@ -1,4 +1,4 @@
-// Rows of a tape, and what is printed about it.
+//! Rows of a tape, and what is printed about it.
 use crate::questions::{PASS, printed};
 use std::alloc::Global;
 use std::process::Abort;

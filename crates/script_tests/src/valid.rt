@@ -1,6 +1,6 @@
-// Texts that are scripts, and what they say.
-use script::parse::parse;
-use script::script::Script;
+//! Texts that are scripts, and what they say.
+use answers::NetAnswer;
+use script::Script;
 use std::alloc::Global;
 use std::test::*;
 
@@ -69,7 +69,7 @@ const CASES: [(&str, &str); 8] = [
 fn scripts_say_what_they_say(rt: HostRuntime) -> Result<(), Fail> {
     let heap = rt.alloc();
     for (text, expected) in CASES {
-        let script = parse(heap, text)?;
+        let script = Script::parse(heap, text)?;
         assert_eq!(rt; said(heap, &script)?.as_str(), expected, "{}", text);
     }
     Ok(())
@@ -79,9 +79,9 @@ fn scripts_say_what_they_say(rt: HostRuntime) -> Result<(), Fail> {
 #[test]
 fn an_empty_net_is_denied(rt: HostRuntime) -> Result<(), Fail> {
     let heap = rt.alloc();
-    let script = parse(heap, "net 1\nsummary\n")?;
+    let script = Script::parse(heap, "net 1\nsummary\n")?;
     assert!(rt; script.wants_summary());
-    let answer = script.answer().ok_or("no answer")?;
+    let answer = NetAnswer::of(&script).ok_or("no answer")?;
     assert_eq!(rt; answer.to_string(heap)?.as_str(), "net denied 2\n");
     Ok(())
 }

@@ -7,7 +7,7 @@ ghost use Rattle.token_stream.specs.Lawful.{sound_prop, table_shows};
 
 use crate::stream::{IntStream, TokenStream};
 use crate::tape::is_tape;
-use errors::denial::Denial;
+use errors::Denial;
 use token::{Token, TokenFactory, TokenType};
 
 /// The tokens of a tape, and the place from which they are shown.

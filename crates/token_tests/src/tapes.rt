@@ -1,6 +1,6 @@
 //! Tapes that are accepted, and tapes that are denied.
 use crate::words::*;
-use errors::denial::Denial;
+use errors::Denial;
 use std::test::*;
 use token::{LaneFactory, LaneToken, Token, TokenType, WordToken};
 use token_stream::TokenTable;

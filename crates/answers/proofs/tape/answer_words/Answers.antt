@@ -1,6 +1,6 @@
 use Rattle.std.proofs.Common.{Some, Option, rules}
 use Rattle.token.specs.declared.token_type.Span.{Span}
-use Rattle.answers.proofs.Verdict.{all_answered}
+use Rattle.answers.proofs.TapeVerdict.{all_answered}
 use Rattle.answers.proofs.tape.answer_words.Goals as goal
 
 pub returns-in-Some : goal.returns-in-Some

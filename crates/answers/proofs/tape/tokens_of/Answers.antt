@@ -3,14 +3,14 @@ use Rattle.std.proofs.lemmas.List.{map-append, length-map}
 use Rattle.std.proofs.lemmas.Slice.Zip.{AllZip-long}
 use Rattle.token.specs.Kinds.{common_fields}
 use Rattle.token_stream.specs.Tapes.{no_token, token_at}
-use Rattle.script.specs.TokenRows.{WritesToken}
+use Rattle.script_lines.specs.TokenRows.{WritesToken}
 use Rattle.answers.specs.Tapes.{Numbered}
-use Rattle.answers.proofs.Written.{zip_at, numbered_push}
-use Rattle.answers.proofs.Zipped.{zip_more}
+use Rattle.answers.proofs.Written.{numbered_push}
+use Rattle.script_lines.proofs.Zipped.{zip_at, zip_more}
 use Rattle.answers.proofs.tape.tokens_of.Goals as goal
 
 pub returns-in_default-clause-none : goal.returns-in_default-clause-none
-returns-in_default-clause-none g c = (refl, λ tape written sound. c.in_default.ensures (omega (arith, c.len.ensures, sound.bounded, AllZip-long (WritesToken g.S.KeptSpan.kept) c.args.rows.now tape written, c.loop-row-test.true, c.loop-row.invariant.count)))
+returns-in_default-clause-none g c = (refl, λ tape written sound. c.in_default.ensures (omega (arith, c.len.ensures, sound.few, AllZip-long (WritesToken g.S.KeptSpan.kept) c.args.rows.now tape written, c.loop-row-test.true, c.loop-row.invariant.count)))
 
 pub returns-in_default-token-clause-none : goal.returns-in_default-token-clause-none
 returns-in_default-token-clause-none g c =
@@ -31,6 +31,6 @@ loop-row-preserved g c =
     let place : c.in-Ok.place ≡ length items = search rules in
     record {
       count = search rules;
-      written = zip_more (WritesToken kept) c.args.rows.now (map fields items) _ c.loop-row.row-index _ _ c.loop-row-test.true c.row-item.is pushed c.loop-row.invariant.written c.in-Some.ensures.written;
+      written = zip_more (WritesToken kept) c.args.rows.now (map fields items) _ c.loop-row.row-index _ _ _ c.loop-row-test.true c.row-item.is pushed c.loop-row.invariant.written c.in-Some.ensures.written;
       numbered = subst Numbered (sym pushed) (numbered_push (map fields items) (fields token) c.loop-row.invariant.numbered (c.in-Some.ensures.index ∙ ap Some (place ∙ sym (length-map items fields))));
     }

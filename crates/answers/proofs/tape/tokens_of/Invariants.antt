@@ -1,6 +1,6 @@
 use Rattle.std.proofs.Common.{◌≡◌, length, map, take}
 use Rattle.token.specs.Kinds.{common_fields}
-use Rattle.script.specs.TokenRows.{WritesTape}
+use Rattle.script_lines.specs.TokenRows.{WritesTape}
 use Rattle.answers.specs.Tapes.{Numbered}
 use Rattle.answers.proofs.tape.tokens_of.Given as goal
 

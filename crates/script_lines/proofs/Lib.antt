@@ -1,0 +1,4 @@
+pub mod LeafRows
+pub mod LinesRead
+pub mod Words
+pub mod Zipped

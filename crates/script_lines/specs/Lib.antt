@@ -1,0 +1,5 @@
+pub mod Directives
+pub mod Numbers
+pub mod Questions
+pub mod TokenRows
+pub mod Words
