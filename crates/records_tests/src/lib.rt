@@ -3,7 +3,7 @@
 
 mod eof_watch;
 #[cfg(test)]
-mod leaves;
+mod leaf_limits;
 #[cfg(test)]
 mod lines;
 #[cfg(test)]

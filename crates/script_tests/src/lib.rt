@@ -4,7 +4,7 @@
 #[cfg(test)]
 mod damaged;
 #[cfg(test)]
-mod leaves;
+mod leaf_rows;
 #[cfg(test)]
 mod many;
 #[cfg(test)]
