@@ -12,6 +12,6 @@ mod listeners;
 mod made;
 mod owners;
 #[cfg(test)]
-mod reports;
+mod report_of_a_set;
 #[cfg(test)]
 mod tables;
