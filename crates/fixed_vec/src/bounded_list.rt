@@ -1,5 +1,5 @@
 //! A list in lent memory.
-ghost use Rattle.std.specs.Prelude.{◌≡◌, ◌<◌, ◌≤◌, ◌++◌, [], ◌∷◌, length, drop, Ok, Err};
+ghost use Rattle.std.specs.Prelude.{◌≡◌, ◌<◌, ◌≤◌, ◌++◌, [], ◌∷◌, length, take, drop, Ok, Err};
 
 /// No place is free.
 #[derive(Clone, Copy, PartialEq, Eq, Debug)]
@@ -23,6 +23,16 @@ impl<'a, T: Copy> BoundedList<'a, T> {
         ensures untouched { spare result ≡ slots.old }
     {
         BoundedList { slots, len: 0 }
+    }
+
+    /// A list whose first `len` places hold its items already.
+    pub fn resume(slots: &'a mut [T], len: usize) -> BoundedList<'a, T>
+        requires { len ≤ length slots.old }
+        ensures same_memory { result.slots.ghost_name ≡ slots.entry.ghost_name }
+        ensures items { listed result ≡ take len slots.old }
+        ensures free { spare result ≡ drop len slots.old }
+    {
+        BoundedList { slots, len }
     }
 
     /// How many items it holds.

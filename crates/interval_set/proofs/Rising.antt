@@ -101,7 +101,7 @@ pub place_fits : (is : List Interval) (k : ℕ) → k < length is → rising is 
 place_fits is k l r = fit_at smallest is k no_interval (omega (arith, ints)) l r
 
 -- a rising list leaves room for one interval more
-pub room : (is : List Interval) (i : Interval) → rising (is ++ i ∷ []) ≡ true → length is < 129
+pub room : (is : List Interval) (i : Interval) → rising (is ++ i ∷ []) ≡ true → length is < 130
 room is i r =
     let t = taken smallest (is ++ i ∷ []) (omega (arith, ints)) r in
     let n = length_push is i in

@@ -7,8 +7,8 @@ use crate::interval::{EPSILON, Interval, MAX_TYPE};
 use errors::Denial;
 use fixed_vec::FixedVec;
 
-// How many intervals a set has at most: it has the most where it holds every second number.
-const MAX_INTERVALS: usize = 129;
+// The places for intervals: a set that holds every second number has the most, 129.
+const MAX_INTERVALS: usize = 130;
 
 /// Numbers from -2 to 255, as rising intervals of which no two touch or overlap.
 #[derive(Clone, Copy)]

@@ -5,16 +5,16 @@ use Rattle.std.proofs.lemmas.Bool.{both_ways, cases_lt}
 use Rattle.atn_graph.specs.Kinds.{is_stop}
 use Rattle.atn_graph.specs.Net.{Net, size, no_state}
 use Rattle.atn.specs.Walks.{Stop, Walk}
-use Rattle.atn.specs.Reach.{Nullable, Reaches}
+use Rattle.atn.specs.Reach.{Nullable, ReachesOver}
 use Rattle.atn.proofs.Some.{edge_state}
 use Rattle.atn.proofs.Decompose.{walk_over, visited_of_walk, walk_of_reaches}
 use Rattle.ll1_analyzer.specs.Sets.{EndsWith, EndsOnStop}
 use Rattle.atn.specs.Labels.{TakesAt}
 
-pub ends_of_reached : {n : Net} {s k : ℕ} (x : ℤ) → Reaches n s k → TakesAt n k x → EndsWith n s [] x
+pub ends_of_reached : {n : Net} {s k : ℕ} (x : ℤ) → ReachesOver (Nullable n) n s k → TakesAt n k x → EndsWith n s [] x
 ends_of_reached {k = k} x r t = let w = walk_of_reaches r [] in record { state = k; stack = w.0; walk = w.1; takes = t }
 
-pub reached_of_ends : {n : Net} {s : ℕ} (x : ℤ) (e : EndsWith n s [] x) → Reaches n s e.state
+pub reached_of_ends : {n : Net} {s : ℕ} (x : ℤ) (e : EndsWith n s [] x) → ReachesOver (Nullable n) n s e.state
 reached_of_ends x e = visited_of_walk e.walk
 
 -- every state of the stack is nullable

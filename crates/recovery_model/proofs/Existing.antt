@@ -8,11 +8,10 @@ use Rattle.atn_graph.specs.Net.{Net, net, size, edges_of}
 use Rattle.atn.specs.declared.atn.Atn.{Atn}
 use Rattle.atn.specs.Labels.{takes}
 use Rattle.atn.specs.Marks.{elem}
-use Rattle.atn.specs.Reach.{Listed}
+use Rattle.atn.specs.Reach.{Nullable, Listed, KnowsReachedOver}
 use Rattle.atn.proofs.Growth.{elem_at, place_of}
 use Rattle.atn.proofs.Labelling.{decides_takes}
 use Rattle.atn.proofs.Over.{knows_over}
-use Rattle.atn.proofs.Reaching.{KnowsReached}
 use Rattle.atn.proofs.Some.{any_place, place_any}
 use Rattle.ll1_analyzer.specs.Sets.{Types, CanEnd}
 use Rattle.ll1_analyzer.proofs.Ends.{ends_of_reached, reached_of_ends, nullable_of_stop, stop_of_nullable, takes_inside}
@@ -25,7 +24,7 @@ any_takes : Net → List ℕ → ℤ → Bool
 any_takes n xs x = list_any (λ k. list_any (λ e. takes n e.kind x) (edges_of n k)) xs
 
 -- the states that s reaches take what walks from s end with
-decides_types : (g : Graph) (s : ℕ) (xs : List ℕ) → KnowsReached (net g.lists) s xs → (x : ℤ) → Decides (any_takes (net g.lists) xs x) (Types (net g.lists) s x)
+decides_types : (g : Graph) (s : ℕ) (xs : List ℕ) → KnowsReachedOver (Nullable (net g.lists)) (net g.lists) s xs → (x : ℤ) → Decides (any_takes (net g.lists) xs x) (Types (net g.lists) s x)
 unfolding any_takes
 decides_types g s xs reached x = (there, back)
   where

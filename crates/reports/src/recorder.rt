@@ -5,6 +5,7 @@ ghost use Rattle.reports.specs.Heard.{Listing, lists};
 use crate::counter::Counter;
 use crate::listener::Listener;
 use crate::report::Report;
+use fixed_vec::BoundedList;
 use interval_set::IntervalSet;
 
 /// Lists the first reports, in the first `len` places of the memory, and counts all of them.
@@ -68,9 +69,20 @@ impl<'a> Listener for Recorder<'a> {
 
     fn report(&mut self, report: Report, expected: &IntervalSet) {
         self.counter.report(report, expected);
-        if self.len < self.slots.len() {
-            self.slots[self.len] = report;
-            self.len += 1;
-        }
+        self.len = list_report(self.slots, self.len, report);
     }
+}
+
+// One report more in the list of the first `len` places, if one is free. Says how many it has then.
+fn list_report(slots: &mut [Report], len: usize, report: Report) -> usize
+    requires { len ≤ length slots.old }
+    ensures bounded { result ≤ length slots.new }
+    ensures listed { take result slots.new ≡
+        take len slots.old ++ take (length slots.old - len) (report ∷ []) }
+    ensures free { drop result slots.new ≡ drop 1 (drop len slots.old) }
+{
+    let mut list = BoundedList::resume(slots, len);
+    // a full list stays as it is
+    let _ = list.push(report);
+    list.len()
 }
