@@ -1,5 +1,5 @@
 -- Words stand for one list of numbers, so what is not formed of it is not formed of them.
-use Rattle.std.proofs.Common.{◌≡◌, ◌∙◌, ℕ, List, [], ◌∷◌, ℤ, length, Some, None, Ok, Err, Result, refl, sym, subst}
+use Rattle.std.proofs.Common.{◌≡◌, ◌∙◌, ℕ, List, [], ◌∷◌, ℤ, length, Some, None, Ok, Err, refl, sym, subst}
 use Rattle.std.specs.Prelude.{slice_index}
 use Rattle.script_lines.specs.declared.directives.Directive.{Directive}
 use Rattle.script_lines.specs.declared.faults.LineFault.{LineFault}

@@ -1,5 +1,5 @@
 -- The words of a line, as `split_ascii_whitespace` cuts them off it.
-use Rattle.std.proofs.Common.{◌≡◌, ◌∙◌, ◌<◌, ◌≤◌, ◌++◌, [], ◌∷◌, ap, false, true, List, ℕ, Option, Some, None, arith, get_or, inl, inr, length, refl, sym, subst}
+use Rattle.std.proofs.Common.{◌≡◌, ◌∙◌, ◌<◌, ◌≤◌, ◌++◌, [], ◌∷◌, ap, false, true, List, ℕ, Some, None, arith, get_or, inl, inr, length, refl, sym, subst}
 use Rattle.std.specs.Prelude.{All, cond, nat_lt}
 use Rattle.std.specs.Borrow.{Bor}
 use Rattle.std.specs.Char.{is_ascii_whitespace}

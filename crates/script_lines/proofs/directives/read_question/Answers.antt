@@ -1,4 +1,4 @@
-use Rattle.std.proofs.Common.{None, inr, subst, rules}
+use Rattle.std.proofs.Common.{None, inr, rules}
 use Rattle.script_lines.specs.Questions.{Forms}
 use Rattle.script_lines.proofs.LinesRead.{no_question}
 use Rattle.script_lines.proofs.directives.read_question.Goals as goal

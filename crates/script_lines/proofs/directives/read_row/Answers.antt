@@ -1,4 +1,4 @@
-use Rattle.std.proofs.Common.{None, inr, subst, rules}
+use Rattle.std.proofs.Common.{None, inr, rules}
 use Rattle.script_lines.specs.Directives.{Formed}
 use Rattle.script_lines.proofs.LinesRead.{no_row}
 use Rattle.script_lines.proofs.directives.read_row.Goals as goal

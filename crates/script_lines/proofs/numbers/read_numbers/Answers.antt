@@ -1,4 +1,4 @@
-use Rattle.std.proofs.Common.{◌≡◌, refl, Some, List, ℤ, pos, length, take, subst, rules, arith}
+use Rattle.std.proofs.Common.{refl, Some, List, ℤ, pos, subst, rules, arith}
 use Rattle.std.specs.List.{AllZip}
 use Rattle.std.proofs.lemmas.List.{take_all}
 use Rattle.script_lines.specs.Numbers.{StandFor, StandsFor}
