@@ -2,16 +2,16 @@
 use Rattle.std.proofs.Common.{◌≡◌, ◌∙◌, ℕ, ◌+◌, ◌<◌, List, [], ◌∷◌, ◌++◌, length, get_or, take, ap, subst, sym, refl}
 use Rattle.std.proofs.lemmas.List.{take_more}
 use Rattle.atn_graph.specs.Net.{Net}
+use Rattle.token.specs.Tokens.{Fields}
 use Rattle.script_lines.specs.declared.questions.Question.{Question}
 use Rattle.answers.specs.Asking.{Answer, EachAnswered, room_after, room_left}
 use Rattle.answers.specs.declared.replies.Reply.{Reply}
-use Rattle.answers.specs.declared.shown.ShownToken.{ShownToken}
 
 room_push : (qs : List Question) (q : Question) (room : ℕ) → room_left (qs ++ q ∷ []) room ≡ room_after q.ask (room_left qs room)
 room_push [] q room = refl
 room_push (p ∷ qs) q room = room_push qs q (room_after p.ask room)
 
-module _ (n : Net) (shown : List ShownToken) where
+module _ (n : Net) (shown : List Fields) where
   each_push : (room : ℕ) (qs : List Question) (rs : List Reply) (q : Question) (r : Reply) → EachAnswered n shown room qs rs → Answer n shown (room_left qs room) q.ask r → EachAnswered n shown room (qs ++ q ∷ []) (rs ++ r ∷ [])
   each_push room [] [] q r e a = (a, tt)
   each_push room [] (s ∷ rs) q r e a = absurd e

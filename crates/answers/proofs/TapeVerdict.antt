@@ -6,15 +6,14 @@ use Rattle.errors.specs.declared.denial.Denial.TheVariants.{ShortTable, OutsideL
 use Rattle.errors.specs.Denials.{in_order, place_in, DeniesFirst}
 use Rattle.errors.proofs.Firsts.{denies, accepts}
 use Rattle.token.specs.declared.token_type.Span.{Span}
-use Rattle.token.specs.declared.kinds.CommonToken.{CommonToken}
+use Rattle.token.specs.declared.common_token.CommonToken.{CommonToken}
 use Rattle.token.specs.Kinds.{common_fields}
 use Rattle.token.specs.Tokens.{Fields}
 use Rattle.token_stream.specs.Tapes.{IsTape, TapeFault}
 use Rattle.script_lines.specs.declared.options.Show.{Show}
 use Rattle.script_lines.specs.declared.token_rows.TokenRow.{TokenRow}
 use Rattle.script_lines.specs.TokenRows.{WritesTape}
-use Rattle.answers.specs.declared.shown.ShownToken.{ShownToken}
-use Rattle.answers.specs.Tapes.{Numbered, RowsFault, RowsAnswered, token_fields, shown_by}
+use Rattle.answers.specs.Tapes.{Numbered, RowsFault, RowsAnswered, shown_by}
 use Rattle.answers.proofs.Written.{same_tape}
 
 -- where one denial alone can fit
@@ -47,20 +46,20 @@ module _ {S : Type 0} (kept : S → Option Span) (rows : List (TokenRow S)) (sho
   no_tape : (IsTape ts → ⊥) → (us : List Fields) → WritesTape kept rows us → IsTape us → ⊥
   no_tape n us w sound = n (subst IsTape (sym (same_tape kept rows ts us written w numbered sound)) sound)
 
-  rows_answered : (r : Result (Vec ShownToken) Denial) → DeniesFirst (TapeFault ts) r → IfOk r (λ _. IsTape ts) → IfOk r (λ v. map token_fields v.items ≡ shown_by show ts) → RowsAnswered kept rows show r
+  rows_answered : (r : Result (Vec Fields) Denial) → DeniesFirst (TapeFault ts) r → IfOk r (λ _. IsTape ts) → IfOk r (λ v. v.items ≡ shown_by show ts) → RowsAnswered kept rows show r
   rows_answered (Ok v) d sound shown = (
     only_accepts FaultyTape _ v (λ none. none ts written sound),
     record { tape = ts; written = written; sound = sound; shown = shown },
   )
   rows_answered (Err e) d sound shown =
       let fits = only_tape ts e (d.denied e refl).fits in
-      (subst (λ f. DeniesFirst {X = Vec ShownToken} (RowsFault kept rows) (Err f)) (sym fits.0) (only_denies FaultyTape _ (no_tape fits.1)), tt)
+      (subst (λ f. DeniesFirst {X = Vec Fields} (RowsFault kept rows) (Err f)) (sym fits.0) (only_denies FaultyTape _ (no_tape fits.1)), tt)
 
 -- the tokens as they were checked
 module _ {S : Type 0} (kept : S → Option Span) (rows : List (TokenRow S)) (show : Show) (items checked : List (CommonToken S)) (same : checked ≡ items) where
   abbrev ts : List Fields
   ts = map (common_fields kept) checked
 
-  pub all_answered : {E : Type 0} (r : Result (Result (Vec ShownToken) Denial) E) → WritesTape kept rows (map (common_fields kept) items) → Numbered (map (common_fields kept) items) → IfOk r (DeniesFirst (TapeFault ts)) → IfOk r (λ o. IfOk o (λ _. IsTape ts)) → IfOk r (λ o. IfOk o (λ v. map token_fields v.items ≡ shown_by show ts)) → IfOk r (RowsAnswered kept rows show)
+  pub all_answered : {E : Type 0} (r : Result (Result (Vec Fields) Denial) E) → WritesTape kept rows (map (common_fields kept) items) → Numbered (map (common_fields kept) items) → IfOk r (DeniesFirst (TapeFault ts)) → IfOk r (λ o. IfOk o (λ _. IsTape ts)) → IfOk r (λ o. IfOk o (λ v. v.items ≡ shown_by show ts)) → IfOk r (RowsAnswered kept rows show)
   all_answered (Ok o) written numbered d sound shown = rows_answered kept rows show ts (subst (λ xs. WritesTape kept rows (map (common_fields kept) xs)) (sym same) written) (subst (λ xs. Numbered (map (common_fields kept) xs)) (sym same) numbered) o d sound shown
   all_answered (Err e) written numbered d sound shown = tt

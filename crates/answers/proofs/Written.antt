@@ -1,7 +1,6 @@
 -- The rows of a script write at most one tape.
-use Rattle.std.proofs.Common.{◌≡◌, ◌∙◌, ℕ, zero, ◌<◌, List, [], ◌∷◌, ◌++◌, length, get_or, Option, Some, pos, ap, sym, refl, inl, inr, suc, arith}
+use Rattle.std.proofs.Common.{◌≡◌, ◌∙◌, ℕ, ◌<◌, List, [], ◌∷◌, ◌++◌, length, Option, Some, pos, ap, sym, refl, inl, inr, suc, arith}
 use Rattle.std.proofs.lemmas.Int.{ints}
-use Rattle.std.specs.List.{AllZip}
 use Rattle.std.proofs.lemmas.Bool.{cases_lt}
 use Rattle.std.proofs.lemmas.List.{get_or_push, get_or_append_left, length_push}
 use Rattle.std.proofs.lemmas.Slice.Zip.{AllZip-long}
@@ -12,7 +11,6 @@ use Rattle.token.specs.Tokens.{Fields, type_number}
 use Rattle.token_stream.specs.Tapes.{no_token, token_at, IsTape}
 use Rattle.script_lines.specs.declared.token_rows.TokenRow.{TokenRow}
 use Rattle.script_lines.specs.TokenRows.{WritesToken, WritesTape}
-use Rattle.script_lines.proofs.Zipped.{zip_at}
 use Rattle.answers.specs.Tapes.{Numbered}
 
 same_type : (t u : TokenType) → type_number t ≡ type_number u → t ≡ u

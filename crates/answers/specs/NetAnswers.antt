@@ -4,9 +4,9 @@ use Rattle.std.specs.Option.{unwrap_or}
 use Rattle.errors.specs.Denials.{denial_text, DeniesFirst}
 use Rattle.errors.specs.declared.denial.Denial.{Denial}
 use Rattle.atn_graph.specs.Tables.{Rows}
-use Rattle.atn_graph.specs.Written.{WritesTape}
+use Rattle.atn_graph.specs.Written.{WritesNet}
 use Rattle.atn.specs.declared.atn.Atn.{Atn}
-use Rattle.atn.specs.Checked.{net_of, Fault}
+use Rattle.atn.specs.Checked.{net_of, NetFault}
 use Rattle.script.specs.Contents.{Content, row_counts}
 use Rattle.answers.specs.declared.net_answers.NetAnswer.{NetAnswer}
 use Rattle.answers.specs.declared.net_answers.Verdict.{Verdict}
@@ -33,8 +33,8 @@ said_tables k m = record { max = m; counts = unwrap_or k.counts (row_counts k); 
 pub record Checked (k : Content) (net : Result Atn Denial) : Type 0 where
   pub m : ℤ
   pub given : k.max ≡ Some m
-  pub verdict : DeniesFirst (Fault (said_tables k m)) net
-  pub written : IfOk net (λ n. WritesTape (said_tables k m) (net_of n))
+  pub verdict : DeniesFirst (NetFault (said_tables k m)) net
+  pub written : IfOk net (λ n. WritesNet (said_tables k m) (net_of n))
 
 -- A script with a net line is answered, with a summary if it asks for one.
 abbrev pub Answered : Content → Option NetAnswer → Type 0

@@ -1,5 +1,5 @@
 -- What is answered about the tape that the rows of a script write.
-use Rattle.std.specs.Prelude.{◌≡◌, ◌<◌, ◌||◌, ℕ, Bool, true, false, List, length, map, nat_lt, Option, Some, None, Result, IfOk}
+use Rattle.std.specs.Prelude.{◌≡◌, ◌<◌, ◌||◌, ℕ, Bool, true, false, List, length, nat_lt, Option, Some, None, Result, IfOk}
 use Rattle.std.specs.Global.{Vec}
 use Rattle.std.specs.List.{list_any}
 use Rattle.errors.specs.Denials.{DeniesFirst}
@@ -16,11 +16,6 @@ use Rattle.script_lines.specs.declared.options.Show.TheVariants.{All, Channel0}
 use Rattle.script_lines.specs.declared.token_rows.TokenRow.{TokenRow}
 use Rattle.script.specs.Contents.{Content}
 use Rattle.script_lines.specs.TokenRows.{WritesTape}
-use Rattle.answers.specs.declared.shown.ShownToken.{ShownToken}
-
--- what a token that is printed says of itself
-abbrev pub token_fields : ShownToken → Fields
-token_fields t = record { typ = t.token_type; channel = t.channel; index = t.index; position = t.position; span = t.span }
 
 -- all tokens of the tape, or EOF and those of channel 0
 abbrev pub shown_by : Show → List Fields → List Fields
@@ -36,17 +31,17 @@ abbrev pub RowsFault : {S : Type 0} → (S → Option Span) → List (TokenRow S
 RowsFault kept rows d = (d ≡ FaultyTape) × ((tape : List Fields) → WritesTape kept rows tape → IsTape tape → ⊥)
 
 -- The tokens are those shown of the tape that the rows write.
-pub record ShowsRows {S : Type 0} (kept : S → Option Span) (rows : List (TokenRow S)) (show : Show) (tokens : List ShownToken) : Type 0 where
+pub record ShowsRows {S : Type 0} (kept : S → Option Span) (rows : List (TokenRow S)) (show : Show) (tokens : List Fields) : Type 0 where
   pub tape : List Fields
   pub written : WritesTape kept rows tape
   pub sound : IsTape tape
-  pub shown : map token_fields tokens ≡ shown_by show tape
+  pub shown : tokens ≡ shown_by show tape
 
-abbrev pub RowsAnswered : {S : Type 0} → (S → Option Span) → List (TokenRow S) → Show → Result (Vec ShownToken) Denial → Type 0
+abbrev pub RowsAnswered : {S : Type 0} → (S → Option Span) → List (TokenRow S) → Show → Result (Vec Fields) Denial → Type 0
 RowsAnswered kept rows show r = DeniesFirst (RowsFault kept rows) r × IfOk r (λ v. ShowsRows kept rows show v.items)
 
 -- A script has a tape of events if it has a row of one, and else of words.
-pub record TapeAnswered (k : Content) (r : Result (Vec ShownToken) Denial) : Type 0 where
+pub record TapeAnswered (k : Content) (r : Result (Vec Fields) Denial) : Type 0 where
   pub lanes : 0 < length k.lanes → RowsAnswered (λ _. None) k.lanes k.show r
   pub words : length k.lanes ≡ 0 → RowsAnswered Some k.words k.show r
 
@@ -62,6 +57,6 @@ abbrev pub needs_tape : Content → Bool
 needs_tape k = has_rows k || list_any (λ q. asks_tokens q.ask) k.questions
 
 -- Only a tape that is needed is checked.
-abbrev pub TapeSaid : Content → Option (Result (Vec ShownToken) Denial) → Type 0
-TapeSaid k None = needs_tape k ≡ false
-TapeSaid k (Some r) = (needs_tape k ≡ true) × TapeAnswered k r
+abbrev pub NeededTape : Content → Option (Result (Vec Fields) Denial) → Type 0
+NeededTape k None = needs_tape k ≡ false
+NeededTape k (Some r) = (needs_tape k ≡ true) × TapeAnswered k r

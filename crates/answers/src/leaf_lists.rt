@@ -1,6 +1,6 @@
 //! The two leaf lists of a script.
 ghost use Rattle.std.specs.Prelude.{◌≡◌, ◌-◌, ◌/◌, IfOk, OnOk, length, min};
-ghost use Rattle.fixed_vec.specs.Lists.{behind};
+ghost use Rattle.fixed_vec.specs.Lists.{spare};
 ghost use Rattle.leaves.specs.Writers.{unwritten};
 ghost use Rattle.answers.specs.Leaves.{LeafAnswer, room};
 
@@ -24,7 +24,7 @@ pub struct AddedLeaf {
 pub struct LeafLists<'a> {
     pub(crate) table: LeafTable<'a>,
     writer: LeafWriter<'a>,
-    ghost equal: { length (unwritten writer) / 57 ≡ length (behind table) },
+    ghost equal: { length (unwritten writer) / 57 ≡ length (spare table) },
 }
 
 // What lies in the memory of a table before there is a leaf.

@@ -15,4 +15,3 @@ pub use net_answers::{NetAnswer, Verdict};
 pub use pictures::Picture;
 pub use replies::Reply;
 pub use script_answers::{Replies, ScriptAnswer};
-pub use shown::ShownToken;

@@ -6,7 +6,6 @@ ghost use Rattle.answers.specs.Asking.{Answer, EachAnswered, room_after, room_le
 ghost use Rattle.answers.specs.Leaves.{room};
 
 use crate::leaf_lists::{AddedLeaf, LeafLists};
-use crate::shown::ShownToken;
 use atn::Atn;
 use errors::Denial;
 use interval_set::IntervalSet;
@@ -16,13 +15,14 @@ use ll1_analyzer::{
 };
 use script_lines::{Ask, LookaheadKind, Question};
 use std::alloc::{AllocError, Global};
+use token::TokenFields;
 
 /// What a question is answered: a set of the net or why it is denied, the tokens that are shown, a leaf that
 /// was added or why it was not, or the picture of the net.
 #[derive(Drop)]
 pub enum Reply {
     Set(Result<IntervalSet, Denial>),
-    Tokens(Vec<ShownToken>),
+    Tokens(Vec<TokenFields>),
     Leaf(Result<AddedLeaf, Denial>),
     Picture,
 }
@@ -31,7 +31,7 @@ fn answer_one<L: Lookahead>(
     heap: Global,
     l: &mut L,
     lists: &mut LeafLists<'_>,
-    shown: &[ShownToken],
+    shown: &[TokenFields],
     ask: &Ask,
 ) -> Result<Reply, AllocError>
     ensures keeps { KeepsNet L.atn L.agrees l.old l.new }
@@ -57,7 +57,7 @@ fn answer_each<L: Lookahead>(
     heap: Global,
     l: &mut L,
     lists: &mut LeafLists<'_>,
-    shown: &[ShownToken],
+    shown: &[TokenFields],
     questions: &[Question],
 ) -> Result<Vec<Reply>, AllocError>
     ensures answered { L.agrees l.old → IfOk result (λ v. EachAnswered (net_of (L.atn l.old)) shown.now (room lists.old.table) questions.now v.items) }
@@ -78,7 +78,7 @@ pub(crate) fn answer_all(
     atn: &Atn,
     kind: LookaheadKind,
     lists: &mut LeafLists<'_>,
-    shown: &[ShownToken],
+    shown: &[TokenFields],
     questions: &[Question],
 ) -> Result<Vec<Reply>, AllocError>
     ensures answered { IfOk result (λ v. EachAnswered (net_of atn.now) shown.now (room lists.old.table) questions.now v.items) }

@@ -9,7 +9,6 @@ use crate::leaf_lists::{AddedLeaf, LINE, LeafLists, no_leaf};
 use crate::net_answers::NetAnswer;
 use crate::pictures::Picture;
 use crate::replies::{Reply, answer_all};
-use crate::shown::ShownToken;
 use crate::tape::answer_tape;
 use atn::Atn;
 use errors::Denial;
@@ -19,6 +18,7 @@ use script::Script;
 use script_lines::Question;
 use std::alloc::{AllocError, Global};
 use std::fmt;
+use token::TokenFields;
 
 /// What is printed for a script: the answer about its net and, if that is accepted, about its tape, and
 /// the answer of each question.
@@ -26,7 +26,7 @@ use std::fmt;
 pub struct ScriptAnswer<'a> {
     about_net: NetAnswer,
     // what is shown of the tape; None without a tape
-    tape: Option<Result<Vec<ShownToken>, Denial>>,
+    tape: Option<Result<Vec<TokenFields>, Denial>>,
     // kept beside the replies, as a part of the script: there is one for each question, or none at all
     questions: &'a [Question],
     replies: Option<Replies>,
@@ -64,7 +64,7 @@ fn answer_rest(
     heap: Global,
     script: &Script,
     about_net: &NetAnswer,
-) -> Result<(Option<Result<Vec<ShownToken>, Denial>>, Option<Replies>), AllocError>
+) -> Result<(Option<Result<Vec<TokenFields>, Denial>>, Option<Replies>), AllocError>
     ensures { IfOk result (λ p. RestAnswered (content script.now) (checked_net about_net.now) p.0 p.1) }
 {
     let Some(atn) = about_net.net() else {
@@ -80,11 +80,11 @@ fn answer_questions(
     heap: Global,
     atn: &Atn,
     script: &Script,
-    tape: &Option<Result<Vec<ShownToken>, Denial>>,
+    tape: &Option<Result<Vec<TokenFields>, Denial>>,
 ) -> Result<Option<Replies>, AllocError>
     ensures { IfOk result (Replied (net_of atn.now) tape.now (content script.now)) }
 {
-    let shown: &[ShownToken] = match tape {
+    let shown: &[TokenFields] = match tape {
         Some(Ok(tokens)) => tokens.as_slice(),
         Some(Err(_)) => return Ok(None),
         None => &[],
@@ -98,7 +98,7 @@ fn answer_where(
     heap: Global,
     atn: &Atn,
     script: &Script,
-    shown: &[ShownToken],
+    shown: &[TokenFields],
 ) -> Result<Replies, AllocError>
     ensures { IfOk result (AllReplied (net_of atn.now) shown.now (content script.now)) }
 {
@@ -141,7 +141,7 @@ pub(crate) fn write_intervals<W: fmt::Write>(
 }
 
 // How many tokens there are, and each on a line of its own.
-fn write_tokens<W: fmt::Write>(tokens: &[ShownToken], f: &mut fmt::Formatter<W>) -> fmt::Result {
+fn write_tokens<W: fmt::Write>(tokens: &[TokenFields], f: &mut fmt::Formatter<W>) -> fmt::Result {
     write!(f, " {}", tokens.len())?;
     for token in tokens {
         write!(f, "\n  {token}")?;

@@ -6,15 +6,15 @@ ghost use Rattle.errors.specs.Denials.{DeniesFirst};
 ghost use Rattle.token_stream.specs.Tapes.{IsTape, TapeFault};
 ghost use Rattle.script.specs.Contents.{content};
 ghost use Rattle.script_lines.specs.TokenRows.{WritesTape};
-ghost use Rattle.answers.specs.Tapes.{Numbered, RowsAnswered, RowsFault, TapeSaid, asks_tokens, has_rows, needs_tape, shown_by, token_fields};
+ghost use Rattle.answers.specs.Tapes.{Numbered, RowsAnswered, RowsFault, NeededTape, asks_tokens, has_rows, needs_tape, shown_by};
 ghost use Rattle.errors.specs.declared.denial.Denial.TheVariants.{FaultyTape};
 
-use crate::shown::{ShownToken, list_shown};
+use crate::shown::list_shown;
 use errors::Denial;
 use script::Script;
 use script_lines::{Ask, LaneRow, Question, Show, TokenRow, WordRow};
 use std::alloc::{AllocError, Global};
-use token::{CommonToken, KeptSpan, LaneFactory, Token, TokenFactory, WordFactory};
+use token::{CommonToken, KeptSpan, LaneFactory, Token, TokenFactory, TokenFields, WordFactory};
 use token_stream::{Filter, TokenTable};
 
 // The tokens that the rows write, each with its place as its token index; None if they write no tape.
@@ -45,10 +45,10 @@ fn answer_tokens<T: Token + Drop, F: TokenFactory<Tok = T> + Drop>(
     tokens: &[T],
     factory: F,
     show: Show,
-) -> Result<Result<Vec<ShownToken>, Denial>, AllocError>
+) -> Result<Result<Vec<TokenFields>, Denial>, AllocError>
     ensures verdict { IfOk result (DeniesFirst (TapeFault (map T.fields tokens.now))) }
     ensures tape { IfOk result (λ r. IfOk r (λ _. IsTape (map T.fields tokens.now))) }
-    ensures shown { IfOk result (λ r. IfOk r (λ v. map token_fields v.items ≡ shown_by show (map T.fields tokens.now))) }
+    ensures shown { IfOk result (λ r. IfOk r (λ v. v.items ≡ shown_by show (map T.fields tokens.now))) }
 {
     let mut table = match TokenTable::check(tokens, factory) {
         Ok(table) => table,
@@ -65,7 +65,7 @@ fn answer_words(
     heap: Global,
     rows: &[WordRow],
     show: Show,
-) -> Result<Result<Vec<ShownToken>, Denial>, AllocError>
+) -> Result<Result<Vec<TokenFields>, Denial>, AllocError>
     ensures { IfOk result (RowsAnswered Some rows.now show) }
 {
     match tokens_of(heap, rows)? {
@@ -78,7 +78,7 @@ fn answer_lanes(
     heap: Global,
     rows: &[LaneRow],
     show: Show,
-) -> Result<Result<Vec<ShownToken>, Denial>, AllocError>
+) -> Result<Result<Vec<TokenFields>, Denial>, AllocError>
     ensures { IfOk result (RowsAnswered (λ _. None) rows.now show) }
 {
     match tokens_of(heap, rows)? {
@@ -111,8 +111,8 @@ fn needs_tape(script: &Script) -> bool
 pub(crate) fn answer_tape(
     heap: Global,
     script: &Script,
-) -> Result<Option<Result<Vec<ShownToken>, Denial>>, AllocError>
-    ensures { IfOk result (TapeSaid (content script.now)) }
+) -> Result<Option<Result<Vec<TokenFields>, Denial>>, AllocError>
+    ensures { IfOk result (NeededTape (content script.now)) }
 {
     if !needs_tape(script) {
         return Ok(None);

@@ -25,13 +25,13 @@ impl<'a, T: Copy> BoundedList<'a, T> {
         BoundedList { slots, len: 0 }
     }
 
-    /// A list whose first `len` places hold its items already.
+    /// A list whose first `len` places hold its items already; all of them, where there are not more.
     pub fn resume(slots: &'a mut [T], len: usize) -> BoundedList<'a, T>
-        requires { len ≤ length slots.old }
         ensures same_memory { result.slots.ghost_name ≡ slots.entry.ghost_name }
         ensures items { listed result ≡ take len slots.old }
         ensures free { spare result ≡ drop len slots.old }
     {
+        let len = len.min(slots.len());
         BoundedList { slots, len }
     }
 

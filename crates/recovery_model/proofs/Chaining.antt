@@ -15,10 +15,9 @@ use Rattle.atn_graph.proofs.StateEdges.{edges_length, edge_number, number_of}
 use Rattle.atn_graph.proofs.Inside as inside
 use Rattle.atn.specs.declared.atn.Atn.{Atn}
 use Rattle.atn.specs.Checked.{net_of}
-use Rattle.ll1_analyzer.specs.Chains.{first_follow, follow_of, ChainFault, StateFault, QuestionFault}
+use Rattle.ll1_analyzer.specs.Chains.{first_follow, follow_of, ChainFault, QuestionFault}
 use Rattle.recovery_model.specs.declared.open_rule.OpenRule.{OpenRule}
-use Rattle.recovery_model.specs.Calls.{InputMismatch}
-use Rattle.recovery_model.specs.Views.{View, Pair, here, chain}
+use Rattle.recovery_model.specs.Views.{View, here, chain}
 use Rattle.recovery_model.specs.RecoverInline.{next_state}
 use Rattle.recovery_model.specs.Denials.{first_calls}
 use Rattle.recovery_model.specs.Coherent.{is_in, is_invoked, stands, is_sound_chain, is_sound_pair, is_sound_saved, is_sound_kept, Coherent, NeverDenied}

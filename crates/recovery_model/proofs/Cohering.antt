@@ -1,38 +1,37 @@
 -- The view of a new parser is coherent, and each call keeps it so.
-use Rattle.std.proofs.Common.{◌≡◌, ℕ, zero, suc, ◌+◌, ◌<◌, ◌≤◌, Bool, true, false, not, ◌&&◌, ◌||◌, ◌==◌, List, [], ◌∷◌, ◌++◌, length, Option, Some, None, refl, sym, ap, ◌∙◌, subst, arith, unwrap_or, slice_set}
+use Rattle.std.proofs.Common.{◌≡◌, ℕ, zero, suc, ◌+◌, ◌<◌, ◌≤◌, Bool, true, false, not, ◌&&◌, ◌==◌, List, [], ◌∷◌, ◌++◌, length, Option, Some, None, refl, sym, ap, ◌∙◌, subst, arith, unwrap_or}
 use Rattle.std.specs.Prelude.{nat_lt}
-use Rattle.std.proofs.lemmas.Bool.{and_parts, and_from, or_parts, lt-ltb, ltb-true, ne_eqb, eqb-true, eq-eqb, both_ways, not-false, cases_lt}
+use Rattle.std.proofs.lemmas.Bool.{and_from, or_parts, lt-ltb, ltb-true, ne_eqb, eq-eqb, both_ways, not-false}
 use Rattle.std.proofs.lemmas.List.{length-replicate, length-set, get_or-append-add, length-append}
-use Rattle.errors.specs.declared.denial.Denial.{Denial}
-use Rattle.errors.specs.declared.denial.Denial.TheVariants.{OutsideLimits, NoRuleOpen, StateOutside, WrongRule, TooManyRules, NoLeafFree, WrongSearch, WrongReport}
+use Rattle.errors.specs.declared.denial.Denial.TheVariants.{OutsideLimits, NoRuleOpen, StateOutside, WrongRule, TooManyRules, NoLeafFree, WrongSearch}
 use Rattle.atn_graph.specs.Kinds.{is_stop}
-use Rattle.atn_graph.specs.Net.{Net, size, rule_at, state_at, edges_of}
+use Rattle.atn_graph.specs.Net.{Net, size, state_at}
 use Rattle.atn_graph.proofs.Soundness.{sound_of}
 use Rattle.atn.specs.declared.atn.Atn.{Atn}
 use Rattle.atn.specs.Checked.{net_of}
 use Rattle.leaves.specs.declared.leaf.LeafKind.{LeafKind}
 use Rattle.leaves.specs.declared.leaf.LeafKind.TheVariants.{Error}
-use Rattle.token.specs.Tokens.{Fields, token_index}
+use Rattle.token.specs.Tokens.{Fields}
 use Rattle.token_stream.specs.Tapes.{no_token, token_at}
 use Rattle.token_stream.specs.Streams.{Named, Shows}
 use Rattle.recovery_model.specs.declared.call.Call.{Call}
 use Rattle.recovery_model.specs.declared.call.Call.TheVariants.{State, Enter, Leave, Match, Wildcard, Sync, Report, Recover}
 use Rattle.recovery_model.specs.declared.open_rule.OpenRule.{OpenRule}
-use Rattle.recovery_model.specs.Calls.{Done, Left, fits}
+use Rattle.recovery_model.specs.Calls.{fits}
 use Rattle.recovery_model.specs.Sets.{WithinSets}
-use Rattle.recovery_model.specs.Views.{View, Pair, here, ahead, chain, own_pair, no_error_states}
+use Rattle.recovery_model.specs.Views.{View, Pair, here, ahead, chain, own_pair}
 use Rattle.recovery_model.specs.Passing.{Reason, Taken, Deleted, Searched, innermost, raised, add, pass, pass_many, before, begin_error_condition, end_error_condition}
-use Rattle.recovery_model.specs.Outcomes.{Outcome, does}
+use Rattle.recovery_model.specs.Outcomes.{Outcome}
 use Rattle.recovery_model.specs.RecoverInline.{missing_symbol, single_token_deletion, mismatch_at, mismatches, match_leaves, matched}
-use Rattle.recovery_model.specs.Sync.{choice_here, stops_at, sync_leaves, is_misplaced, acts, sync}
-use Rattle.recovery_model.specs.Recover.{failsafe, searching, search_length, recover_leaves, recover}
+use Rattle.recovery_model.specs.Sync.{choice_here, stops_at, sync_leaves, is_misplaced, sync}
+use Rattle.recovery_model.specs.Recover.{failsafe, searching, search_length, recover}
 use Rattle.recovery_model.specs.Denials.{denial, none_open, is_elsewhere, is_called, is_token_type, too_few}
 use Rattle.recovery_model.specs.Steps.{entered, left, reports, accepted, step}
 use Rattle.recovery_model.specs.TapeLaw.{New}
-use Rattle.recovery_model.specs.Coherent.{is_in, is_invoked, stands, is_sound_pair, is_sound_saved, is_sound_kept, Coherent}
-use Rattle.recovery_model.proofs.Shown.{Onward, onward_by, onward_ends, onward_more, onward_rises, passed_onward}
+use Rattle.recovery_model.specs.Coherent.{is_invoked, stands, is_sound_pair, is_sound_saved, is_sound_kept, Coherent}
+use Rattle.recovery_model.proofs.Shown.{Onward, onward_by, onward_ends, onward_rises, passed_onward}
 use Rattle.recovery_model.proofs.Cases.{no_first, by_step, by_left, by_report, by_match, by_acts, by_sync, by_guard}
-use Rattle.recovery_model.proofs.Chaining.{Stood, stood, chain_sound, stands_inside}
+use Rattle.recovery_model.proofs.Chaining.{stood, chain_sound, stands_inside}
 
 -- what is left of what a stream shows is a stream's
 pub shows_onward : (tape old new : List Fields) → Shows tape old → Onward old new → Shows tape new

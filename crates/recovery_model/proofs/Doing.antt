@@ -1,18 +1,17 @@
 -- What matching and sync do to the notes, and what they answer.
-use Rattle.std.proofs.Common.{◌≡◌, ℕ, Bool, true, false, not, ◌&&◌, ◌||◌, ◌==◌, ◌⊎◌, List, ◌∷◌, ℤ, Option, Some, sym, refl, ap, ◌∙◌, inl, inr}
-use Rattle.std.proofs.lemmas.Bool.{cond_both, both_ways, cases_Bool, and_right, eq-eqb}
+use Rattle.std.proofs.Common.{◌≡◌, ℕ, Bool, true, false, not, ◌&&◌, ◌==◌, ◌⊎◌, List, ◌∷◌, ℤ, Option, Some, refl, ap, ◌∙◌, inl, inr}
+use Rattle.std.proofs.lemmas.Bool.{both_ways, cases_Bool, and_right, eq-eqb}
 use Rattle.atn_graph.specs.Net.{Net}
 use Rattle.leaves.specs.declared.leaf.LeafKind.TheVariants.{Error}
 use Rattle.token.specs.Tokens.{Fields, type_number, is_eof, token_index}
-use Rattle.token_stream.specs.Tapes.{token_at, EndsInEof}
-use Rattle.token_stream.specs.Streams.{passed}
-use Rattle.recovery_model.specs.Calls.{Token, Done}
+use Rattle.token_stream.specs.Tapes.{EndsInEof}
+use Rattle.recovery_model.specs.Calls.{Token}
 use Rattle.recovery_model.specs.Sets.{WithinSets, joined}
-use Rattle.recovery_model.specs.Views.{View, Pair, current, place, ahead, here, follows, own_pair}
-use Rattle.recovery_model.specs.Passing.{Reason, Taken, Deleted, Searched, before, pass, pass_many, in_error_recovery_mode, begin_error_condition, given, end_error_condition}
-use Rattle.recovery_model.specs.Outcomes.{Outcome, does, telling}
-use Rattle.recovery_model.specs.RecoverInline.{expects, is_unwanted, is_missing, missing_symbol, unwanted_token, missing_token, single_token_deletion, single_token_insertion, mismatch_at, mismatches, take_token, recover_inline, matched}
-use Rattle.recovery_model.specs.Sync.{Choice, Begins, GoesBack, Neither, choice_here, may_come, may_be_nothing, stops_at, acts, sync}
+use Rattle.recovery_model.specs.Views.{View, Pair, current, place, ahead, here, follows}
+use Rattle.recovery_model.specs.Passing.{Taken, Deleted, Searched, before, pass, pass_many, begin_error_condition, end_error_condition}
+use Rattle.recovery_model.specs.Outcomes.{Outcome}
+use Rattle.recovery_model.specs.RecoverInline.{expects, is_unwanted, missing_symbol, single_token_deletion, single_token_insertion, take_token, matched}
+use Rattle.recovery_model.specs.Sync.{choice_here, may_come, may_be_nothing, stops_at, acts, sync}
 use Rattle.recovery_model.specs.Histories.{is_accepted, is_of_the_tape, begins_choice}
 use Rattle.recovery_model.proofs.Shown.{Rises, Numbered, onward_ends, onward_numbered, passed_moves, ahead_of_eof}
 use Rattle.recovery_model.proofs.Cases.{by_match, by_acts, by_sync}

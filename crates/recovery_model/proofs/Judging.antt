@@ -1,5 +1,5 @@
 -- What a call is denied with is the first denial that it meets, and then nothing is done.
-use Rattle.std.proofs.Common.{◌≡◌, ℕ, zero, suc, ◌<◌, Bool, true, false, ◌⊎◌, List, [], ◌∷◌, length, get_or, Option, Some, None, refl, sym, ap, ◌∙◌, subst, inl, inr, arith}
+use Rattle.std.proofs.Common.{◌≡◌, ℕ, zero, suc, ◌<◌, Bool, true, false, ◌⊎◌, List, [], ◌∷◌, length, get_or, Option, Some, None, refl, sym, ap, ◌∙◌, inl, inr, arith}
 use Rattle.std.specs.Prelude.{Contains}
 use Rattle.std.proofs.lemmas.Bool.{cases_Bool, cond-true, cond-false, both_ways}
 use Rattle.std.proofs.lemmas.Option.{none-some, same_Some}
@@ -16,7 +16,7 @@ use Rattle.recovery_model.specs.Outcomes.{Outcome}
 use Rattle.recovery_model.specs.Histories.{is_accepted}
 use Rattle.recovery_model.specs.Sync.{choice_here}
 use Rattle.recovery_model.specs.Denials.{faults, first_fault, denial, DeniedWithFirst}
-use Rattle.recovery_model.specs.Steps.{accepted, step, DeniedLeavesAll}
+use Rattle.recovery_model.specs.Steps.{accepted, DeniedLeavesAll}
 use Rattle.recovery_model.proofs.Cases.{no_first, by_step, by_left, by_report, by_match, by_acts, by_sync}
 
 abbrev place : Denial → ℕ

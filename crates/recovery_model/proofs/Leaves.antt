@@ -1,6 +1,6 @@
 -- Which leaves are added: those of the tokens that are dropped, beside leaves of EOF and of made-up tokens.
-use Rattle.std.proofs.Common.{◌≡◌, ℕ, zero, suc, ◌+◌, Bool, true, false, not, ◌==◌, ◌⊎◌, List, [], ◌∷◌, ◌++◌, length, map, filter, Option, Some, None, sym, refl, ap, ◌∙◌, append_assoc, subst, ap₂, inl, inr, arith}
-use Rattle.std.proofs.lemmas.Bool.{cond_both, cond-true, cond-false, cases_Bool, and_right}
+use Rattle.std.proofs.Common.{◌≡◌, ℕ, zero, suc, ◌+◌, Bool, true, false, not, ◌⊎◌, List, [], ◌∷◌, ◌++◌, length, map, filter, Some, None, sym, refl, ap, ◌∙◌, append_assoc, subst, ap₂, inl, inr, arith}
+use Rattle.std.proofs.lemmas.Bool.{cond-true, cond-false, cases_Bool, and_right}
 use Rattle.std.proofs.lemmas.List.{append-nil, map-append, length-append, get_or-append-add}
 use Rattle.std.proofs.lemmas.List.Elements.{filter-append}
 use Rattle.atn_graph.specs.Net.{Net}

@@ -1,6 +1,6 @@
 -- What ends the error condition passes a token, and so does a recover that the failsafe makes skip one.
-use Rattle.std.proofs.Common.{◌≡◌, ℕ, ◌+◌, ◌<◌, ◌≤◌, Bool, true, false, ◌&&◌, ◌||◌, ◌==◌, List, [], ◌∷◌, ◌++◌, length, Option, Some, None, sym, refl, ap, ◌∙◌, subst, inl, inr, arith}
-use Rattle.std.proofs.lemmas.Bool.{cond_both, cond-true, and_parts, both_ways, eq-eqb, not-true}
+use Rattle.std.proofs.Common.{◌≡◌, ℕ, ◌+◌, ◌<◌, ◌≤◌, Bool, true, false, ◌&&◌, ◌||◌, ◌==◌, List, [], ◌∷◌, ◌++◌, length, sym, refl, ap, ◌∙◌, subst, inl, inr, arith}
+use Rattle.std.proofs.lemmas.Bool.{cond-true, and_parts, both_ways, eq-eqb, not-true}
 use Rattle.std.proofs.lemmas.List.{get_or-append-add, length-append}
 use Rattle.atn_graph.specs.Net.{Net}
 use Rattle.token.specs.Tokens.{Fields, is_eof, token_index}
@@ -11,7 +11,7 @@ use Rattle.recovery_model.specs.declared.call.Call.TheVariants.{State, Enter, Le
 use Rattle.recovery_model.specs.Calls.{fits}
 use Rattle.recovery_model.specs.Sets.{WithinSets}
 use Rattle.recovery_model.specs.Views.{View, current, place, ahead}
-use Rattle.recovery_model.specs.Passing.{Taken, Searched, pass, end_error_condition}
+use Rattle.recovery_model.specs.Passing.{Taken, Searched, pass}
 use Rattle.recovery_model.specs.Outcomes.{Outcome}
 use Rattle.recovery_model.specs.RecoverInline.{matched}
 use Rattle.recovery_model.specs.Sync.{sync}

@@ -1,5 +1,5 @@
 -- The mode is what the history says, call by call.
-use Rattle.std.proofs.Common.{◌≡◌, ℕ, zero, suc, Bool, true, false, not, ◌&&◌, ◌==◌, List, [], ◌∷◌, ◌++◌, ◌-◌, length, arith, reverse, pos, Option, Some, None, sym, refl, ap, ◌∙◌, append_assoc, subst, if◌then◌else◌, unwrap_or}
+use Rattle.std.proofs.Common.{◌≡◌, ℕ, zero, suc, Bool, true, false, not, ◌&&◌, ◌==◌, List, [], ◌∷◌, ◌++◌, ◌-◌, length, arith, reverse, pos, Some, None, sym, refl, ap, ◌∙◌, append_assoc, subst, if◌then◌else◌, unwrap_or}
 use Rattle.std.proofs.lemmas.Bool.{cond_both, cond-true, cond-false, and_from, and_left, and_right, both_ways, not-false, lt-ltb, eq-eqb, eqb-true, ne_eqb}
 use Rattle.std.proofs.lemmas.List.{reverse-append}
 use Rattle.errors.specs.declared.denial.Denial.TheVariants.{NoRuleOpen, WrongReport}

@@ -1,6 +1,6 @@
 -- The notes tell what the history says, call by call.
 use Rattle.std.proofs.Common.{◌≡◌, ℕ, zero, suc, ◌<◌, Bool, true, false, not, ◌&&◌, ◌==◌, nat_lt, ◌⊎◌, List, [], ◌∷◌, ◌++◌, length, map, reverse, ℤ, Option, Some, None, sym, refl, ap, ◌∙◌, append_assoc, subst, ap₂, inl, inr, arith, if◌then◌else◌, unwrap_or, All, slice_index_or, slice_set}
-use Rattle.std.proofs.lemmas.Bool.{cond_both, cond-true, cond-false, or_parts, and_from, and_right, not-false, eq-eqb, ne_eqb, cases_eq, ltb-true}
+use Rattle.std.proofs.lemmas.Bool.{cond-true, cond-false, or_parts, and_from, and_right, not-false, eq-eqb, ne_eqb, cases_eq, ltb-true}
 use Rattle.std.proofs.lemmas.List.{get_or-replicate, length-replicate, get_or-set_same, get_or-set_other, length-set, reverse-append}
 use Rattle.errors.specs.declared.denial.Denial.TheVariants.{OutsideLimits, StateOutside, NoRuleOpen, WrongRule, TooManyRules}
 use Rattle.atn_graph.specs.Net.{Net, size}
@@ -13,7 +13,7 @@ use Rattle.recovery_model.specs.declared.open_rule.OpenRule.{OpenRule}
 use Rattle.recovery_model.specs.Calls.{Answer, Denied, Done, Left as LeftAnswer, Token, Mismatch, fits}
 use Rattle.recovery_model.specs.Sets.{WithinSets}
 use Rattle.recovery_model.specs.Views.{View, place, here, ahead, new_strategy_state}
-use Rattle.recovery_model.specs.Passing.{Searched, pass, begin_error_condition, pass_many}
+use Rattle.recovery_model.specs.Passing.{Searched, pass, pass_many}
 use Rattle.recovery_model.specs.Outcomes.{Outcome, does}
 use Rattle.recovery_model.specs.Recover.{failsafe_applies, failsafe, searching, search_length, recover}
 use Rattle.recovery_model.specs.Denials.{denial, is_elsewhere, none_open, is_called}

@@ -1,5 +1,5 @@
 -- Leaves of the tokens that a stream shows, and of missing symbols in the place of a token of its tape, are within the limits.
-use Rattle.std.specs.Prelude.{ℕ, ◌<◌, ◌≤◌, List, length, pos, ◌≤ℤ◌, Option, None}
+use Rattle.std.specs.Prelude.{ℕ, ◌<◌, ◌≤◌, List, length, pos, ◌≤ℤ◌, None}
 use Rattle.token.specs.declared.token_type.TokenType.{TokenType}
 use Rattle.token.specs.Tokens.{Fields, type_number}
 use Rattle.token_stream.specs.Tapes.{token_at}

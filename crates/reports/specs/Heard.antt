@@ -1,5 +1,5 @@
 -- What a listener is told, and what it has heard and keeps of it.
-use Rattle.std.specs.Prelude.{◌≡◌, ℕ, ◌+◌, min, Bool, List, [], ◌∷◌, ◌++◌, length, take, drop, ℤ, Option, Some, None}
+use Rattle.std.specs.Prelude.{◌≡◌, ℕ, ◌+◌, min, Bool, List, [], ◌∷◌, ◌++◌, length, take, drop, ℤ, Option, Some}
 use Rattle.reports.specs.declared.report.Report.{Report}
 use Rattle.reports.specs.declared.report.ReportKind.{ReportKind}
 use Rattle.reports.specs.Reports.{report_at}
@@ -21,9 +21,6 @@ told_at kind index position types = told_of (report_at kind index position types
 pub record Heard : Type 0 where
   pub count : ℕ
   pub latest : Option Report
-
-abbrev pub nothing : Heard
-nothing = record { count = 0; latest = None }
 
 -- One more: the count stays at 4,294,967,295 once it is there.
 abbrev pub hears : Told → Heard → Heard

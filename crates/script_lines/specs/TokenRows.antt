@@ -4,7 +4,7 @@ use Rattle.std.specs.List.{AllZip}
 use Rattle.token.specs.declared.token_type.Span.{Span}
 use Rattle.token.specs.declared.token_type.TokenType.{TokenType}
 use Rattle.token.specs.declared.token_type.TokenType.TheVariants.{Eof, Of}
-use Rattle.token.specs.declared.kinds.CommonToken.{CommonToken}
+use Rattle.token.specs.declared.common_token.CommonToken.{CommonToken}
 use Rattle.token.specs.Kinds.{common_fields}
 use Rattle.token.specs.Tokens.{Fields, type_number}
 use Rattle.script_lines.specs.declared.token_rows.TokenRow.{TokenRow}
@@ -33,5 +33,5 @@ abbrev pub TokenRead : {S : Type 0} → (S → Option Span) → TokenRow S → O
 TokenRead kept row r = MatchOption r ((t : Fields) → WritesToken kept row t → ⊥) (λ t. WritesToken kept row (common_fields kept t))
 
 -- The rows write the tokens, one each, in their order.
-abbrev pub Writes : {S : Type 0} → (S → Option Span) → List (TokenRow S) → List Fields → Type 0
-Writes kept = AllZip (WritesToken kept)
+abbrev pub WritesTape : {S : Type 0} → (S → Option Span) → List (TokenRow S) → List Fields → Type 0
+WritesTape kept = AllZip (WritesToken kept)

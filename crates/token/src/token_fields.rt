@@ -3,6 +3,7 @@ ghost use Rattle.std.specs.Prelude.{◌≡◌};
 
 use crate::token::Token;
 use crate::token_type::{Span, TokenType};
+use std::fmt;
 use std::marker::Model;
 
 /// All that a token says of itself.
@@ -45,6 +46,27 @@ impl TokenFields {
             index: token.token_index(),
             position: token.position(),
             span: token.span(),
+        }
+    }
+}
+
+/// The token index, and the token's row as a script gives it.
+impl fmt::Display for TokenFields {
+    fn fmt<W: fmt::Write>(&self, f: &mut fmt::Formatter<W>) -> fmt::Result {
+        let index = self.index.map_or(-1, i32::from);
+        let token_type = i32::from(self.token_type);
+        let (line, column) = self.position;
+        match self.span {
+            Some(span) => write!(
+                f,
+                "{index}: word {token_type} {} {line} {column} {} {}",
+                self.channel, span.start, span.stop
+            ),
+            None => write!(
+                f,
+                "{index}: lane {token_type} {} {line} {column}",
+                self.channel
+            ),
         }
     }
 }

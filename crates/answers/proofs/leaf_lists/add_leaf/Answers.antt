@@ -1,6 +1,6 @@
 use Rattle.std.proofs.Common.{◌≡◌, ◌∙◌, ◌-◌, ◌/◌, ◌≤◌, length, drop, get_or, ap, sym, subst, arith}
 use Rattle.std.proofs.lemmas.List.{get_or_push, length_push, length-drop, take_all}
-use Rattle.fixed_vec.specs.Lists.{listed, behind}
+use Rattle.fixed_vec.specs.Lists.{listed, spare}
 use Rattle.leaves.specs.Writers.{unwritten}
 use Rattle.answers.proofs.LastLine.{long_enough, last_line, some_free}
 use Rattle.answers.proofs.leaf_lists.add_leaf.Goals as goal
@@ -13,7 +13,7 @@ overflow_sub-text c =
 pub returns-clause-answer : goal.returns-clause-answer
 returns-clause-answer c =
     let free = some_free (length (unwritten c.args.writer.now) / 57) c.add-2.result _ c.in_default-add.is c.add-2.ensures.full in
-    let some = some_free (length (behind c.args.table.now)) c.add.result _ c.in_default.is c.add.ensures.full in
+    let some = some_free (length (spare c.args.table.now)) c.add.result _ c.in_default.is c.add.ensures.full in
     let grown = (c.add.ensures.room some).1.appended in
     let last : c.len.result - 1 ≡ length (listed c.args.table.now) = omega (arith, c.len.ensures, ap length grown, length_push (listed c.args.table.now) c.args.leaf) in
     let leaf = c.index-as_slice-len.is ∙ ap (λ xs. get_or xs (c.len.result - 1) c.index-as_slice-len.result) (c.as_slice.ensures ∙ grown) ∙ get_or_push (listed c.args.table.now) c.args.leaf _ (c.len.result - 1) (sym last) in

@@ -10,7 +10,7 @@ use Rattle.script_lines.proofs.Zipped.{zip_at, zip_more}
 use Rattle.answers.proofs.tape.tokens_of.Goals as goal
 
 pub returns-in_default-clause-none : goal.returns-in_default-clause-none
-returns-in_default-clause-none g c = (refl, λ tape written sound. c.in_default.ensures (omega (arith, c.len.ensures, sound.few, AllZip-long (WritesToken g.S.KeptSpan.kept) c.args.rows.now tape written, c.loop-row-test.true, c.loop-row.invariant.count)))
+returns-in_default-clause-none g c = (refl, λ tape written sound. c.in_default.ensures (omega (arith, c.len.ensures, sound.bounded, AllZip-long (WritesToken g.S.KeptSpan.kept) c.args.rows.now tape written, c.loop-row-test.true, c.loop-row.invariant.count)))
 
 pub returns-in_default-token-clause-none : goal.returns-in_default-token-clause-none
 returns-in_default-token-clause-none g c =
