@@ -5,12 +5,9 @@ ghost use Rattle.leaves.specs.Writers.{unwritten};
 ghost use Rattle.answers.specs.Leaves.{LeafAnswer, room};
 
 use errors::Denial;
-use leaves::{Leaf, LeafKind, LeafList, LeafTable, LeafWriter};
+use leaves::{LINE_LENGTH, Leaf, LeafKind, LeafList, LeafTable, LeafWriter};
 use std::alloc::{AllocError, Global};
 use token::TokenType;
-
-// The bytes of a line.
-pub(crate) const LINE: usize = 57;
 
 /// A leaf as each list has it last.
 #[derive(Drop)]
@@ -37,10 +34,10 @@ impl<'a> LeafLists<'a> {
     pub fn new(leaves: &'a mut [Leaf], text: &'a mut [u8]) -> LeafLists<'a>
         ensures { room result.table ≡ min (length leaves.old) (length text.old / 57) }
     {
-        let places = leaves.len().min(text.len() / LINE);
+        let places = leaves.len().min(text.len() / LINE_LENGTH);
         LeafLists {
             table: LeafTable::new(&mut leaves[..places]),
-            writer: LeafWriter::new(&mut text[..places * LINE]),
+            writer: LeafWriter::new(&mut text[..places * LINE_LENGTH]),
         }
     }
 
@@ -79,7 +76,7 @@ fn add_leaf(
         return Ok(Err(denial));
     }
     let text = writer.as_bytes();
-    let line = text[text.len() - LINE..].to_vec(heap)?;
+    let line = text[text.len() - LINE_LENGTH..].to_vec(heap)?;
     let last = table.as_slice()[table.len() - 1];
     Ok(Ok(AddedLeaf { leaf: last, line }))
 }

@@ -52,7 +52,9 @@ impl NetAnswer {
 
     /// The net, if it was accepted.
     pub fn net(&self) -> Option<&Atn>
-        ensures { MatchOption result (is_ok (checked_net self.now) ≡ false) (λ n. checked_net self.now ≡ Ok n.now) }
+        ensures { MatchOption result
+            (is_ok (checked_net self.now) ≡ false)
+            (λ n. checked_net self.now ≡ Ok n.now) }
     {
         self.net.as_ref().ok()
     }

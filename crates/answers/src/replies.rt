@@ -35,7 +35,8 @@ fn answer_one<L: Lookahead>(
     ask: &Ask,
 ) -> Result<Reply, AllocError>
     ensures keeps { KeepsNet L.atn L.agrees l.old l.new }
-    ensures answers { L.agrees l.old → IfOk result (Answer (net_of (L.atn l.old)) shown.now (room lists.old.table) ask.now) }
+    ensures answers { L.agrees l.old
+        → IfOk result (Answer (net_of (L.atn l.old)) shown.now (room lists.old.table) ask.now) }
     ensures room { OnOk result (room lists.new.table ≡ room_after ask.now (room lists.old.table)) }
 {
     match ask {
@@ -60,8 +61,10 @@ fn answer_each<L: Lookahead>(
     shown: &[TokenFields],
     questions: &[Question],
 ) -> Result<Vec<Reply>, AllocError>
-    ensures answered { L.agrees l.old → IfOk result (λ v. EachAnswered (net_of (L.atn l.old)) shown.now (room lists.old.table) questions.now v.items) }
-    ensures room { OnOk result (room lists.new.table ≡ room_left questions.now (room lists.old.table)) }
+    ensures answered { L.agrees l.old → IfOk result (λ v.
+        EachAnswered (net_of (L.atn l.old)) shown.now (room lists.old.table) questions.now v.items) }
+    ensures room { OnOk result
+        (room lists.new.table ≡ room_left questions.now (room lists.old.table)) }
 {
     let mut answers = Vec::new(heap);
     // kept as a loop: an answer may alter the lookahead, which no closure of a proved chain may
@@ -81,8 +84,10 @@ pub(crate) fn answer_all(
     shown: &[TokenFields],
     questions: &[Question],
 ) -> Result<Vec<Reply>, AllocError>
-    ensures answered { IfOk result (λ v. EachAnswered (net_of atn.now) shown.now (room lists.old.table) questions.now v.items) }
-    ensures room { OnOk result (room lists.new.table ≡ room_left questions.now (room lists.old.table)) }
+    ensures answered { IfOk result (λ v.
+        EachAnswered (net_of atn.now) shown.now (room lists.old.table) questions.now v.items) }
+    ensures room { OnOk result
+        (room lists.new.table ≡ room_left questions.now (room lists.old.table)) }
 {
     match kind {
         LookaheadKind::Walker => {

@@ -5,7 +5,7 @@ ghost use Rattle.answers.specs.Answers.{AllAnswered, AllReplied, Replied, RestAn
 ghost use Rattle.answers.specs.NetAnswers.{checked_net};
 ghost use Rattle.script.specs.Contents.{content};
 
-use crate::leaf_lists::{AddedLeaf, LINE, LeafLists, no_leaf};
+use crate::leaf_lists::{AddedLeaf, LeafLists, no_leaf};
 use crate::net_answers::NetAnswer;
 use crate::pictures::Picture;
 use crate::replies::{Reply, answer_all};
@@ -13,6 +13,7 @@ use crate::tape::answer_tape;
 use atn::Atn;
 use errors::Denial;
 use interval_set::IntervalSet;
+use leaves::LINE_LENGTH;
 use reports::Counter;
 use script::Script;
 use script_lines::Question;
@@ -65,7 +66,8 @@ fn answer_rest(
     script: &Script,
     about_net: &NetAnswer,
 ) -> Result<(Option<Result<Vec<TokenFields>, Denial>>, Option<Replies>), AllocError>
-    ensures { IfOk result (λ p. RestAnswered (content script.now) (checked_net about_net.now) p.0 p.1) }
+    ensures { IfOk result (λ p.
+        RestAnswered (content script.now) (checked_net about_net.now) p.0 p.1) }
 {
     let Some(atn) = about_net.net() else {
         return Ok((None, None));
@@ -104,7 +106,7 @@ fn answer_where(
 {
     let places = script.leaf_places();
     let mut leaves = vec![in heap; no_leaf(); places]?;
-    let mut text = vec![in heap; 0u8; places * LINE]?;
+    let mut text = vec![in heap; 0u8; places * LINE_LENGTH]?;
     let mut lists = LeafLists::new(leaves.as_mut_slice(), text.as_mut_slice());
     let replies = answer_all(
         heap,

@@ -23,8 +23,10 @@ fn tokens_of<S: KeptSpan + Copy>(
     rows: &[TokenRow<S>],
 ) -> Result<Option<Vec<CommonToken<S>>>, AllocError>
     ensures none { IfOk result (λ o. IfNone o (RowsFault S.kept rows.now FaultyTape)) }
-    ensures written { IfOk result (λ o. IfSome o (λ v. WritesTape S.kept rows.now (map (common_fields S.kept) v.items))) }
-    ensures numbered { IfOk result (λ o. IfSome o (λ v. Numbered (map (common_fields S.kept) v.items))) }
+    ensures written { IfOk result (λ o. IfSome o (λ v.
+        WritesTape S.kept rows.now (map (common_fields S.kept) v.items))) }
+    ensures numbered { IfOk result (λ o. IfSome o (λ v.
+        Numbered (map (common_fields S.kept) v.items))) }
 {
     let mut tokens = Vec::new(heap);
     for row in rows {
@@ -48,7 +50,8 @@ fn answer_tokens<T: Token + Drop, F: TokenFactory<Tok = T> + Drop>(
 ) -> Result<Result<Vec<TokenFields>, Denial>, AllocError>
     ensures verdict { IfOk result (DeniesFirst (TapeFault (map T.fields tokens.now))) }
     ensures tape { IfOk result (λ r. IfOk r (λ _. IsTape (map T.fields tokens.now))) }
-    ensures shown { IfOk result (λ r. IfOk r (λ v. v.items ≡ shown_by show (map T.fields tokens.now))) }
+    ensures shown { IfOk result (λ r. IfOk r (λ v.
+        v.items ≡ shown_by show (map T.fields tokens.now))) }
 {
     let mut table = match TokenTable::check(tokens, factory) {
         Ok(table) => table,

@@ -33,14 +33,16 @@ pub fn sets_exist()
 /// A leaf can be made of every token that a stream shows, and of a missing symbol in the place of a token of the tape.
 pub fn leaves_fit()
     ensures shown_leaves { (tape shown : List Fields) → Shows tape shown → ShownFits shown }
-    ensures missing_symbols { (tape shown : List Fields) → Shows tape shown → MissingSymbolFits tape }
+    ensures missing_symbols { (tape shown : List Fields) → Shows tape shown
+        → MissingSymbolFits tape }
 {}
 
 /// Each view that the calls of a new parser lead to is coherent, so no question that a parser asks is denied; and the sets
 /// that it asks for of itself are those that the steps look at.
 pub fn views_cohere()
     ensures cohere { (a : Atn) → ViewsCohere a }
-    ensures own_sets { (a : Atn) (w : WithinSets) (v : View) → Agree (net_of a) w → OwnSets (net_of a) w v }
+    ensures own_sets { (a : Atn) (w : WithinSets) (v : View) → Agree (net_of a) w
+        → OwnSets (net_of a) w v }
 {}
 
 /// What a call is denied with is the first denial that it meets, and then it leaves the whole view.

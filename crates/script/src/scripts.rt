@@ -186,7 +186,9 @@ impl Script {
 
     /// The tables of the net; None without a net line.
     pub fn tables(&self) -> Option<Tables<'_>>
-        ensures { MatchOption result ((content self.now).max ≡ None) (ItsTables (content self.now)) }
+        ensures { MatchOption result
+            ((content self.now).max ≡ None)
+            (ItsTables (content self.now)) }
     {
         Some(Tables {
             max_token_type: self.max?,
