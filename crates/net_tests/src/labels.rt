@@ -66,6 +66,22 @@ fn every_edge_counts(rt: HostRuntime) -> Result<(), Fail> {
     has(&rt, &net, 1, &[2])
 }
 
+// The same edge twice: the crate drops the second.
+#[test]
+fn an_edge_written_twice(rt: HostRuntime) -> Result<(), Fail> {
+    let net = Atn::check(&Tables {
+        max_token_type: 2,
+        counts: counts(1, 2, 2, 0),
+        rules: &[rule(0, 1)],
+        states: &[state(0, 2, 2), state(0, 7, 0)],
+        edges: &[edge(5, 1, 1, 0), edge(5, 1, 1, 0)],
+        intervals: &[],
+    })?;
+    assert_eq!(rt; net.edge_count(), 2);
+    has(&rt, &net, 0, &[1])?;
+    has(&rt, &net, 1, &[1])
+}
+
 // The intervals 5 7 9 5..10 1 3 1..9 hold 1 to 10: the crate loses 10, so that its not-set takes
 // it.
 #[test]
