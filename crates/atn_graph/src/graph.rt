@@ -1,5 +1,5 @@
 //! The graph of a net, whose tables are checked up to left recursion.
-ghost use Rattle.std.specs.Prelude.{◌≡◌, false, IfOk};
+ghost use Rattle.std.specs.Prelude.{◌≡◌, ⊤, false, IfOk};
 ghost use Rattle.errors.specs.Denials.{DeniesFirst};
 ghost use Rattle.atn_graph.specs.Faults.{TableFault};
 ghost use Rattle.atn_graph.specs.Kinds.{is_stop};
@@ -14,6 +14,7 @@ use crate::read::read;
 use crate::tables::Tables;
 use crate::transition::Transition;
 use errors::Denial;
+use std::alloc::AllocError;
 
 /// A net that keeps every rule but, perhaps, that no rule is left-recursive. It is about 90 KB
 /// large: hand it on by reference.
@@ -39,7 +40,9 @@ impl Graph {
         if is_outside(t) {
             return Err(Denial::OutsideLimits);
         }
-        let lists = read(t).ok_or(Denial::BrokenRule)?;
+        let Some(lists) = read(t) else {
+            return Err(Denial::BrokenRule);
+        };
         lists.check_rules()?;
         Ok(Graph { lists })
     }
@@ -62,5 +65,17 @@ impl Graph {
             Some(state) => &self.lists.edges[state.first..state.end],
             None => &[],
         }
+    }
+}
+
+impl Clone for Graph {
+    ghost is_clone = { λ v w. w ≡ v };
+
+    ghost is_infallible = { λ _. ⊤ };
+
+    fn clone(&self) -> Result<Graph, AllocError> {
+        Ok(Graph {
+            lists: self.lists.clone()?,
+        })
     }
 }

@@ -12,7 +12,7 @@ mod transition;
 
 pub use atn_state::{AtnState, StateKind};
 pub use graph::Graph;
-pub use limits::{MAX_EDGES, MAX_INTERVALS, MAX_RULES, MAX_STATES};
+pub use limits::{MAX_EDGES, MAX_INTERVALS, MAX_RULES, MAX_STATES, is_outside, is_short};
 pub use lists::{Lists, Rule};
 pub use tables::{Counts, EdgeRow, RuleRow, StateRow, Tables};
 pub use transition::{Move, Transition, TransitionKind};

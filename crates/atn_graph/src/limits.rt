@@ -26,7 +26,7 @@ fn is_shorter(len: usize, count: i32) -> bool
 }
 
 /// Whether a table has fewer rows than its count.
-pub(crate) fn is_short(t: &Tables<'_>) -> bool
+pub fn is_short(t: &Tables<'_>) -> bool
     ensures { result ≡ short_table (rows t.now) }
 {
     is_shorter(t.rules.len(), t.counts.rules)
@@ -53,7 +53,7 @@ fn are_outside(c: Counts) -> bool
 }
 
 /// Whether a count, or the largest token type, is outside its limits.
-pub(crate) fn is_outside(t: &Tables<'_>) -> bool
+pub fn is_outside(t: &Tables<'_>) -> bool
     ensures { result ≡ outside_limits (rows t.now) }
 {
     are_outside(t.counts) || is_beyond(t.max_token_type, 1, MAX_TYPE as usize)

@@ -21,7 +21,7 @@ pub struct Rule {
 
 /// The rows of a net with their numbers read, kinds by their names and indexes as indexes. That
 /// they keep the rules of a net is not said. They are about 90 KB large: hand them on by reference.
-#[derive(Drop)]
+#[derive(Clone, Drop)]
 pub struct Lists {
     pub max_token_type: i32,
     pub rules: FixedVec<Rule, MAX_RULES>,

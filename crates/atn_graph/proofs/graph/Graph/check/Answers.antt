@@ -20,22 +20,21 @@ returns-then-is_outside-clause-verdict c =
     let long : short_table t ≡ false = sym c.is_short.ensures ∙ c.if-is_short.false in
     denies (TableFault t) _ (first_outside t long (sym c.is_outside.ensures ∙ c.if-is_outside.true))
 
-pub returns-in_err-lists-clause-verdict : goal.returns-in_err-lists-clause-verdict
-returns-in_err-lists-clause-verdict c =
+pub returns-in_default-clause-verdict : goal.returns-in_default-clause-verdict
+returns-in_default-clause-verdict c =
     let t = rows c.args.t.now in
     let long : short_table t ≡ false = sym c.is_short.ensures ∙ c.if-is_short.false in
     let within : outside_limits t ≡ false = sym c.is_outside.ensures ∙ c.if-is_outside.false in
     let none : (n : Net) → WritesNet t n → ⊥ = search rules in
-    let denied : c.from_residual.result ≡ Err BrokenRule = search rules in
-    subst (DeniesFirst (TableFault t)) (sym denied) (denies (TableFault t) _ (first_broken t long within (λ n w s. none n w)))
+    denies (TableFault t) _ (first_broken t long within (λ n w s. none n w))
 
 pub returns-in_err-check_rules-clause-verdict : goal.returns-in_err-check_rules-clause-verdict
 returns-in_err-check_rules-clause-verdict c =
     let t = rows c.args.t.now in
     let long : short_table t ≡ false = sym c.is_short.ensures ∙ c.if-is_short.false in
     let within : outside_limits t ≡ false = sym c.is_outside.ensures ∙ c.if-is_outside.false in
-    let w : WritesNet t (net c.in_ok-lists.lists) = search rules in
-    let denied : c.from_residual-in_err-check_rules.result ≡ Err BrokenRule = search rules in
+    let w : WritesNet t (net c.in-Some.lists) = search rules in
+    let denied : c.from_residual.result ≡ Err BrokenRule = search rules in
     subst (DeniesFirst (TableFault t)) (sym denied) (denies (TableFault t) _ (first_broken t long within (broken_once t _ w c.in_err-check_rules.ensures.1)))
 
 pub returns-clause-verdict : goal.returns-clause-verdict
@@ -43,5 +42,5 @@ returns-clause-verdict c =
     let t = rows c.args.t.now in
     let long : short_table t ≡ false = sym c.is_short.ensures ∙ c.if-is_short.false in
     let within : outside_limits t ≡ false = sym c.is_outside.ensures ∙ c.if-is_outside.false in
-    let w : WritesNet t (net c.in_ok-lists.lists) = search rules in
+    let w : WritesNet t (net c.in-Some.lists) = search rules in
     accepts (TableFault t) _ (no_fault t _ long within w c.in_ok-check_rules.ensures)
