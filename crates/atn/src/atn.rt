@@ -1,5 +1,5 @@
 //! The checked net: its check, and what it tells of itself.
-ghost use Rattle.std.specs.Prelude.{◌≡◌, length, IfOk};
+ghost use Rattle.std.specs.Prelude.{◌≡◌, ⊤, length, IfOk};
 ghost use Rattle.errors.specs.Denials.{DeniesFirst};
 ghost use Rattle.atn_graph.specs.Net.{net, size, state_at, edges_of, no_rule, no_state, no_edge};
 ghost use Rattle.atn_graph.specs.Tables.{rows};
@@ -9,6 +9,7 @@ ghost use Rattle.atn.specs.Walks.{HasLeftRecursion};
 use crate::recursion::is_left_recursive;
 use atn_graph::{AtnState, Graph, Rule, StateKind, Tables, Transition};
 use errors::Denial;
+use std::alloc::AllocError;
 
 /// A net that keeps every rule: whoever holds one needs no further check. It is about 90 KB large:
 /// hand it on by reference.
@@ -117,5 +118,17 @@ impl Atn {
         ensures { result.now ≡ edges_of (net_of self.now) s }
     {
         self.graph.edges(s)
+    }
+}
+
+impl Clone for Atn {
+    ghost is_clone = { λ v w. w ≡ v };
+
+    ghost is_infallible = { λ _. ⊤ };
+
+    fn clone(&self) -> Result<Atn, AllocError> {
+        Ok(Atn {
+            graph: self.graph.clone()?,
+        })
     }
 }

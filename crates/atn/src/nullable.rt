@@ -15,7 +15,7 @@ use crate::visits::Visits;
 use atn_graph::{Graph, Move, Transition};
 
 /// A graph, and the states of it that walks may step over: the nullable ones, as `of` finds them.
-#[derive(Drop)]
+#[derive(Clone, Copy)]
 pub struct NullableStates<'g> {
     pub graph: &'g Graph,
     pub states: Visits,

@@ -9,7 +9,7 @@ use fixed_vec::FixedVec;
 
 /// States, each once, by their numbers, which are below 512. Marks beside the list tell at once
 /// whether a state is found.
-#[derive(Drop)]
+#[derive(Clone, Copy)]
 pub struct Visits {
     seen: [bool; MAX_STATES],
     order: FixedVec<usize, MAX_STATES>,
