@@ -1,5 +1,5 @@
 -- The intervals of a checked net can go into a set.
-use Rattle.std.proofs.Common.{◌≡◌, ℕ, ◌+◌, ◌<◌, ◌≤◌, Bool, true, false, Decides, ◌||◌, leb, List, [], ◌∷◌, length, get_or, take, ℤ, pos, negsuc, ◌≤ℤ◌, Ok, Err, Result, sym, ap, ◌∙◌, inl, inr, arith}
+use Rattle.std.proofs.Common.{◌≡◌, ℕ, ◌+◌, ◌-◌, ◌<◌, ◌≤◌, Bool, true, false, Decides, ◌||◌, leb, List, [], ◌∷◌, length, get_or, take, drop, slice_range, ℤ, pos, negsuc, ◌≤ℤ◌, Ok, Err, Result, sym, ap, ◌∙◌, inl, inr, arith}
 use mathlib.Core.Bool.{or-false}
 use lib.Signed.{le_z, lt_z}
 use Rattle.std.specs.List.{list_any}
@@ -61,6 +61,12 @@ pub set_fits_at : (n : Net) (first count k : ℕ) (d : Interval) → set_fits n 
 set_fits_at n first count k d e l =
     let p = and_parts (leb (first + count) (length n.intervals)) (all_fit n (part n first count)) (and_parts (leb 1 count) _ e).1 in
     all_fit_at n (part n first count) k d p.1 (omega (arith, part_length n first count (set_inside n first count e)))
+
+-- the slice gone through is the set's part of the net's intervals
+pub is_part : (n : Net) (all : List Interval) (first count : _) → all ≡ n.intervals → slice_range all first (first + count) ≡ part n first count
+is_part n all first count e =
+    let k : (first + count) - first ≡ count = omega arith in
+    ap (λ j. take j (drop first all)) k ∙ ap (λ xs. take count (drop first xs)) e
 
 -- a test of a state's edges tells whether one of them takes the type
 pub decides_takes : (g : Graph) (s : ℕ) (x : ℤ) → Decides (list_any (λ e. takes (net g.lists) e.kind x) (edges_of (net g.lists) s)) (TakesAt (net g.lists) s x)

@@ -14,6 +14,43 @@ ghost use Rattle.atn.specs.Reach.{KnowsNullable, StepOver, Listed, LeadsOver, Kn
 use crate::visits::Visits;
 use atn_graph::{Graph, Move, Transition};
 
+// Whether the edge leads over the states.
+fn leads_over(states: &Visits, e: &Transition) -> bool
+    ensures { result ≡ over_listed (found states.now) e.now }
+{
+    match e.kind.moves() {
+        Move::Along => states.has(e.target),
+        Move::Call { follow } => states.has(e.target) && states.has(follow),
+        Move::Token => false,
+    }
+}
+
+// Whether one of the edges leads over the states.
+fn any_leads_over(states: &Visits, edges: &[Transition]) -> bool
+    ensures { result ≡ list_any (over_listed (found states.now)) edges.now }
+{
+    edges.iter().any(|e| leads_over(states, e))
+}
+
+// Whether s is a stop state or has an edge that leads over the states.
+fn falls(graph: &Graph, states: &Visits, s: usize) -> bool
+    ensures { Decides result (Falls (net graph.now.lists) (found states.now) s) }
+{
+    graph.is_stop(s) || any_leads_over(states, graph.edges(s))
+}
+
+// One pass over the states of the graph: those that fall are noted.
+fn pass(graph: &Graph, states: &mut Visits)
+    ensures { Pass (net graph.now.lists) (size (net graph.now.lists))
+        (found states.old) (found states.new) }
+{
+    for s in 0..graph.lists.states.len() {
+        if falls(graph, states, s) {
+            states.note(s);
+        }
+    }
+}
+
 /// A graph, and the states of it that walks may step over: the nullable ones, as `of` finds them.
 #[derive(Clone, Copy)]
 pub struct NullableStates<'g> {
@@ -27,16 +64,13 @@ impl<'g> NullableStates<'g> {
         ensures graph { result.graph.now ≡ graph.now }
         ensures known { KnowsNullable (net graph.now.lists) (found result.states) }
     {
-        let mut nullables = NullableStates {
-            graph,
-            states: Visits::new(),
-        };
+        let mut states = Visits::new();
         // passes until one adds nothing
         loop {
-            let before = nullables.states.len();
-            nullables.pass();
-            if nullables.states.len() == before {
-                return nullables;
+            let before = states.len();
+            pass(graph, &mut states);
+            if states.len() == before {
+                return NullableStates { graph, states };
             }
         }
     }
@@ -46,44 +80,6 @@ impl<'g> NullableStates<'g> {
         ensures { result ≡ elem s (found self.now.states) }
     {
         self.states.has(s)
-    }
-
-    // Whether the edge leads over nullable states.
-    fn leads_over(&self, e: &Transition) -> bool
-        ensures { result ≡ over_listed (found self.now.states) e.now }
-    {
-        match e.kind.moves() {
-            Move::Along => self.has(e.target),
-            Move::Call { follow } => self.has(e.target) && self.has(follow),
-            Move::Token => false,
-        }
-    }
-
-    // Whether one of the edges leads over nullable states.
-    fn any_leads_over(&self, edges: &[Transition]) -> bool
-        ensures { result ≡ list_any (over_listed (found self.now.states)) edges.now }
-    {
-        edges.iter().any(|e| self.leads_over(e))
-    }
-
-    // Whether s is a stop state or has an edge that leads over nullable states.
-    fn falls(&self, s: usize) -> bool
-        ensures { Decides result (Falls (net self.now.graph.now.lists) (found self.now.states) s) }
-    {
-        self.graph.is_stop(s) || self.any_leads_over(self.graph.edges(s))
-    }
-
-    // One pass over the states of the graph: those that fall are noted.
-    fn pass(&mut self)
-        ensures graph { self.new.graph.now ≡ self.old.graph.now }
-        ensures pass { Pass (net self.old.graph.now.lists) (size (net self.old.graph.now.lists))
-            (found self.old.states) (found self.new.states) }
-    {
-        for s in 0..self.graph.lists.states.len() {
-            if self.falls(s) {
-                self.states.note(s);
-            }
-        }
     }
 
     // Notes the states that the edge leads to.

@@ -1,4 +1,4 @@
-use Rattle.std.proofs.Common.{◌≡◌, Bool, ◌||◌, Decides, sym, ap, ap₂, ◌∙◌, subst, take_all, true, ◌⊎◌, take, get_or}
+use Rattle.std.proofs.Common.{◌≡◌, Bool, ◌||◌, Decides, sym, ap, ◌∙◌, subst, take_all, true, ◌⊎◌, take, get_or}
 use mathlib.Core.Bool.{or_assoc}
 use Rattle.std.proofs.lemmas.Bool.Decides.{Decides-or}
 use Rattle.std.specs.List.{list_any}
@@ -13,8 +13,8 @@ use Rattle.atn.specs.Labels.{takes, TakesAt}
 use Rattle.atn.proofs.Labelling.{any_more, decides_takes}
 use Rattle.atn.proofs.atn.Atn.add_labels.Goals as goal
 
-pub kind_label-requires : goal.kind_label-requires
-kind_label-requires c =
+pub add_label-requires : goal.add_label-requires
+add_label-requires c =
     let g = c.args.self.now.graph in
     let s = c.args.s in
     let i = c.loop-e.e-index in
@@ -27,8 +27,8 @@ loop-e-preserved c x =
     let xs = c.edges-e-items.result.now in
     let i = c.loop-e.e-index in
     let p : Transition → Bool = λ e. takes n e.kind x in
-    c.add_set.ensures x
-    ∙ ap₂ (λ a b. a || b) (c.loop-e.invariant x) (c.kind_label.ensures x)
+    c.add_label.ensures x
+    ∙ ap (λ b. b || p (get_or xs i no_edge)) (c.loop-e.invariant x)
     ∙ or_assoc (holds c.args.set.now x) (list_any p (take i xs)) (p (get_or xs i no_edge))
     ∙ ap (λ b. holds c.args.set.now x || b) (sym (any_more p xs i no_edge c.loop-e-test.true))
 

@@ -1,18 +1,12 @@
-use Rattle.std.proofs.Common.{◌≡◌, ◌+◌, ◌-◌, ◌<◌, true, ◌||◌, List, length, get_or, take, drop, slice_range, pos, sym, ap, ◌∙◌, subst, arith, take_all}
-use Rattle.interval_set.specs.declared.interval.Interval.{Interval}
+use Rattle.std.proofs.Common.{◌≡◌, ◌+◌, ◌<◌, true, ◌||◌, length, get_or, take, slice_range, pos, sym, ap, ◌∙◌, subst, arith, take_all}
+use mathlib.Core.Bool.{or_assoc}
 use Rattle.interval_set.specs.Intervals.{from_to, inside, has}
-use Rattle.atn_graph.specs.Net.{Net}
+use Rattle.interval_set.specs.Members.{holds}
 use Rattle.atn_graph.specs.Rules.{interval_fits, part}
 use Rattle.atn_graph.proofs.Sets.{part_length}
 use Rattle.atn.specs.Checked.{net_of}
-use Rattle.atn.proofs.Labelling.{max_few, fits_addable, added, any_more, set_inside, set_fits_at}
-use Rattle.atn.proofs.atn.Atn.set_label.Goals as goal
-
--- the slice gone through is the set's part of the net's intervals
-is_part : (n : Net) (all : List Interval) (first count : _) → all ≡ n.intervals → slice_range all first (first + count) ≡ part n first count
-is_part n all first count e =
-    let k : (first + count) - first ≡ count = omega arith in
-    ap (λ j. take j (drop first all)) k ∙ ap (λ xs. take count (drop first xs)) e
+use Rattle.atn.proofs.Labelling.{is_part, max_few, fits_addable, added, any_more, set_inside, set_fits_at}
+use Rattle.atn.proofs.atn.Atn.add_part.Goals as goal
 
 pub loop-i-preserved : goal.loop-i-preserved
 loop-i-preserved c x =
@@ -28,10 +22,11 @@ loop-i-preserved c x =
     let fits : interval_fits n i ≡ true = subst (λ ys. interval_fits n (get_or ys k none) ≡ true) (sym part_is) (set_fits_at n first c.args.count k none c.requires l) in
     added c.loop-i.set i c.add_interval.result c.add_interval.new.self c.add_interval.ensures (fits_addable n i (max_few a.graph) fits) x
     ∙ ap (λ b. b || inside i x) (c.loop-i.invariant x)
-    ∙ sym (any_more (λ i. inside i x) xs k none c.loop-i-test.true)
+    ∙ or_assoc (holds c.args.set.now x) (has (take k xs) x) (inside i x)
+    ∙ ap (λ b. holds c.args.set.now x || b) (sym (any_more (λ i. inside i x) xs k none c.loop-i-test.true))
 
 pub returns : goal.returns
 returns c x =
     let n = net_of c.args.self.now in
     let xs = slice_range c.deref.result.now c.args.first (c.args.first + c.args.count) in
-    c.loop-i.invariant x ∙ ap (λ ys. has ys x) (take_all c.loop-i.i-index xs c.loop-i-test.false ∙ is_part n _ c.args.first c.args.count c.deref.ensures.0)
+    c.loop-i.invariant x ∙ ap (λ ys. holds c.args.set.now x || has ys x) (take_all c.loop-i.i-index xs c.loop-i-test.false ∙ is_part n _ c.args.first c.args.count c.deref.ensures.0)
