@@ -55,6 +55,9 @@ fn rule_transitions<L: Lookahead>(
 ) -> Result<FixedVec<RuleTransition, MAX_CHAIN>, Denial>
     ensures { ReadsCalls (net_of (L.atn l.now)) chain.now result }
 {
+    if chain.len() > MAX_CHAIN {
+        return Err(Denial::FaultyChain);
+    }
     let mut calls = FixedVec::new();
     for s in chain {
         let call = rule_transition(l.edges(*s)).ok_or(Denial::FaultyChain)?;
