@@ -66,7 +66,8 @@ impl<L: Lookahead> Lookahead for Cache<L> {
             slice_index_or self.new.slots i None ≡ slice_index_or self.old.slots i None }
     {
         let i = s % SLOTS;
-        if let Some(slot) = self.slots[i]
+        let kept = self.slots[i];
+        if let Some(slot) = kept
             && slot.state == s
         {
             return slot.set;

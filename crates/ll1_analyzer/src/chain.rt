@@ -73,6 +73,7 @@ pub fn follow_list<L: Lookahead>(l: &L, chain: &[usize]) -> Result<FollowStates,
 {
     let calls = rule_transitions(l, chain)?;
     let mut follows = FollowStates::new();
-    add_follow_states(calls.as_slice(), &mut follows);
+    // there is a call for each state
+    add_follow_states(&calls[..chain.len()], &mut follows);
     Ok(follows)
 }
