@@ -11,14 +11,14 @@ use crate::lookahead::Lookahead;
 use atn::Atn;
 use interval_set::IntervalSet;
 
-// How many sets a cache keeps.
-const SLOTS: usize = 16;
+/// How many sets a cache keeps.
+pub const SLOTS: usize = 16;
 
-// The set that was answered for a state.
+/// The set that was answered for a state.
 #[derive(Clone, Copy)]
-struct Slot {
-    state: usize,
-    set: IntervalSet,
+pub struct Slot {
+    pub state: usize,
+    pub set: IntervalSet,
 }
 
 /// Keeps up to 16 of the sets that the lookahead below has answered, each in the slot of its state.

@@ -17,10 +17,10 @@ pub const MAX_CHAIN: usize = 63;
 /// The follow states of the open rules, innermost first: each state of a chain has one.
 pub type FollowStates = FixedVec<usize, MAX_CHAIN>;
 
-// A rule edge, by the state that follows the call.
+/// A rule edge, by the state that follows the call.
 #[derive(Clone, Copy, Default)]
-struct RuleTransition {
-    follow_state: usize,
+pub struct RuleTransition {
+    pub follow_state: usize,
 }
 
 // The rule edge that is the first of some edges, if it is one.
