@@ -1,5 +1,5 @@
 //! The walker.
-ghost use Rattle.std.specs.Prelude.{◌≡◌};
+ghost use Rattle.std.specs.Prelude.{◌≡◌, ⊤};
 ghost use Rattle.atn.specs.Checked.{net_of};
 ghost use Rattle.atn.specs.Found.{found};
 ghost use Rattle.atn.specs.Reach.{KnowsNullable};
@@ -9,6 +9,7 @@ ghost use Rattle.ll1_analyzer.specs.Sets.{Within};
 use crate::lookahead::{EPSILON, Lookahead};
 use atn::{Atn, NullableStates};
 use interval_set::IntervalSet;
+use std::alloc::AllocError;
 
 /// Works each answer out by walks over the net. It keeps the nullable states alone: those from
 /// which a walk on an empty stack can end on a stop state.
@@ -70,5 +71,18 @@ impl<'a> Lookahead for LL1Analyzer<'a> {
         ensures alters_nothing { self.new ≡ self.old }
     {
         self.look(s)
+    }
+}
+
+impl<'a> Clone for LL1Analyzer<'a> {
+    ghost is_clone = { λ v w. w ≡ v };
+
+    ghost is_infallible = { λ _. ⊤ };
+
+    fn clone(&self) -> Result<LL1Analyzer<'a>, AllocError> {
+        Ok(LL1Analyzer {
+            atn: self.atn,
+            nullables: self.nullables,
+        })
     }
 }

@@ -11,14 +11,14 @@ use crate::lookahead::Lookahead;
 use atn::Atn;
 use interval_set::IntervalSet;
 
-// How many sets a cache keeps.
-const SLOTS: usize = 16;
+/// How many sets a cache keeps.
+pub const SLOTS: usize = 16;
 
-// The set that was answered for a state.
+/// The set that was answered for a state.
 #[derive(Clone, Copy)]
-struct Slot {
-    state: usize,
-    set: IntervalSet,
+pub struct Slot {
+    pub state: usize,
+    pub set: IntervalSet,
 }
 
 /// Keeps up to 16 of the sets that the lookahead below has answered, each in the slot of its state.
@@ -66,7 +66,8 @@ impl<L: Lookahead> Lookahead for Cache<L> {
             slice_index_or self.new.slots i None ≡ slice_index_or self.old.slots i None }
     {
         let i = s % SLOTS;
-        if let Some(slot) = self.slots[i]
+        let kept = self.slots[i];
+        if let Some(slot) = kept
             && slot.state == s
         {
             return slot.set;

@@ -17,10 +17,10 @@ pub const MAX_CHAIN: usize = 63;
 /// The follow states of the open rules, innermost first: each state of a chain has one.
 pub type FollowStates = FixedVec<usize, MAX_CHAIN>;
 
-// A rule edge, by the state that follows the call.
+/// A rule edge, by the state that follows the call.
 #[derive(Clone, Copy, Default)]
-struct RuleTransition {
-    follow_state: usize,
+pub struct RuleTransition {
+    pub follow_state: usize,
 }
 
 // The rule edge that is the first of some edges, if it is one.
@@ -55,6 +55,9 @@ fn rule_transitions<L: Lookahead>(
 ) -> Result<FixedVec<RuleTransition, MAX_CHAIN>, Denial>
     ensures { ReadsCalls (net_of (L.atn l.now)) chain.now result }
 {
+    if chain.len() > MAX_CHAIN {
+        return Err(Denial::FaultyChain);
+    }
     let mut calls = FixedVec::new();
     for s in chain {
         let call = rule_transition(l.edges(*s)).ok_or(Denial::FaultyChain)?;
@@ -70,6 +73,7 @@ pub fn follow_list<L: Lookahead>(l: &L, chain: &[usize]) -> Result<FollowStates,
 {
     let calls = rule_transitions(l, chain)?;
     let mut follows = FollowStates::new();
-    add_follow_states(calls.as_slice(), &mut follows);
+    // there is a call for each state
+    add_follow_states(&calls[..chain.len()], &mut follows);
     Ok(follows)
 }

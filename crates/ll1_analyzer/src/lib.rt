@@ -9,8 +9,8 @@ mod sets;
 mod table;
 
 pub use analyzer::LL1Analyzer;
-pub use cache::Cache;
-pub use chain::{FollowStates, MAX_CHAIN, follow_list};
+pub use cache::{Cache, SLOTS, Slot};
+pub use chain::{FollowStates, MAX_CHAIN, RuleTransition, follow_list};
 pub use lookahead::{EOF, EPSILON, Lookahead};
 pub use sets::{get_error_recovery_set, get_expected_tokens, next_tokens, next_tokens_in_ctx};
 pub use table::Table;

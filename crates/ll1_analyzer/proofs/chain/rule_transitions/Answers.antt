@@ -1,4 +1,4 @@
-use Rattle.std.proofs.Common.{rules, ◌≡◌, ℕ, ◌+◌, ◌<◌, ◌≤◌, true, false, length, Result, Ok, Err, is_ok, option_map, ◌⊎◌, sym, ap, ◌∙◌, subst, inl, inr}
+use Rattle.std.proofs.Common.{rules, ◌≡◌, ℕ, ◌+◌, ◌<◌, ◌≤◌, true, false, length, Result, Ok, Err, is_ok, option_map, ◌⊎◌, sym, ap, ◌∙◌, subst, inl, inr, arith}
 use Rattle.std.proofs.lemmas.Bool.{cases_lt, false≢true}
 use Rattle.errors.specs.declared.denial.Denial.TheVariants.{FaultyChain}
 use Rattle.fixed_vec.specs.Items.{items}
@@ -6,7 +6,7 @@ use Rattle.atn.specs.Checked.{net_of}
 use Rattle.ll1_analyzer.specs.declared.chain.RuleTransition.{RuleTransition}
 use Rattle.ll1_analyzer.specs.Chains.{first_follow}
 use Rattle.ll1_analyzer.specs.Listing.{follow}
-use Rattle.ll1_analyzer.proofs.Reading.{ReadSoFar, read_more, denied_faulty, no_call, too_long}
+use Rattle.ll1_analyzer.proofs.Reading.{ReadSoFar, read_more, read_long, read_all, denied_faulty, no_call, too_long}
 use Rattle.ll1_analyzer.proofs.chain.rule_transitions.Goals as goal
 
 -- what was not pushed had no room
@@ -50,3 +50,11 @@ loop-s-preserved g c =
     let fits = room (length (items c.loop-s.calls)) c.push.result t _ c.in_ok-map_err.ensures.variant c.push.ensures.full in
     subst (ReadSoFar n c.args.chain.now (c.loop-s.s-index + 1)) (sym (c.push.ensures.room fits).1)
     (read_more n c.args.chain.now c.loop-s.s-index (items c.loop-s.calls) t c.loop-s-test.true is c.loop-s.invariant)
+
+pub returns-then-chain-gt-MAX_CHAIN : goal.returns-then-chain-gt-MAX_CHAIN
+returns-then-chain-gt-MAX_CHAIN g c = read_long (net_of (g.L.Lookahead.atn c.args.l.now)) c.args.chain.now c.if-chain-gt-MAX_CHAIN.true
+
+pub returns : goal.returns
+returns g c =
+    read_all (net_of (g.L.Lookahead.atn c.args.l.now)) c.args.chain.now c.loop-s.calls c.loop-s.s-index
+    (omega (arith, c.if-chain-gt-MAX_CHAIN.false)) (omega arith) c.loop-s.invariant
