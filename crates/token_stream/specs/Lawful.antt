@@ -65,5 +65,5 @@ pub sound_of : (tape : List Fields) → ∥ IsTape tape ∥₁ → IsTape tape
 sound_of tape s = ∥∥₁_elim s (sound_prop tape) (λ w. w)
 
 -- so a table does
-pub table_shows : {T : Type 0} (fields : T → Fields) (xs : List T) (p : ℕ) → p < length xs → IsTape (map fields xs) → Shows (map fields xs) (drop p (map fields xs))
-table_shows fields xs p l s = shows_from (map fields xs) p (omega (arith, l, length-map xs fields)) s
+pub table_shows : {T : Type 0} (fields : T → Fields) (xs : List T) (p : ℕ) → p < length xs → ∥ IsTape (map fields xs) ∥₁ → Shows (map fields xs) (drop p (map fields xs))
+table_shows fields xs p l s = shows_from (map fields xs) p (omega (arith, l, length-map xs fields)) (sound_of (map fields xs) s)

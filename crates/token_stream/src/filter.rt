@@ -10,12 +10,12 @@ use crate::stream::{IntStream, TokenStream};
 use std::marker::PhantomData;
 use token::{Token, TokenType};
 
-// How far a filter has looked: token number `ahead` below, counted from 1, is number `count` of
-// those that it shows.
+/// How far a filter has looked: token number `ahead` below, counted from 1, is number `count` of
+/// those that it shows.
 #[derive(Clone, Copy)]
-struct Cursor {
-    count: usize,
-    ahead: u16,
+pub struct Cursor {
+    pub count: usize,
+    pub ahead: u16,
 }
 
 /// Shows EOF and the tokens of channel 0 of the stream below. Looking ahead one by one goes over

@@ -6,7 +6,7 @@ mod stream;
 mod table;
 mod tape;
 
-pub use filter::Filter;
+pub use filter::{Cursor, Filter};
 pub use stream::{IntStream, TokenStream};
 pub use table::TokenTable;
 pub use tape::MAX_TOKENS;

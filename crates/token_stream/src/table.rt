@@ -57,7 +57,7 @@ impl<'a, T: Token, F> IntStream for TokenTable<'a, T, F> {
 
     ghost shown = { λ s. drop s.place (map T.fields s.tokens.now) };
 
-    ghost lawful = { λ s. table_shows T.fields s.tokens.now s.place s.inside s.sound };
+    ghost lawful = { λ s. table_shows T.fields s.tokens.now s.place s.inside ∣ s.sound ∣₁ };
 
     fn la(&mut self, k: i32) -> TokenType {
         self.ahead(k).token_type()

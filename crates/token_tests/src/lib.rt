@@ -2,6 +2,8 @@
 //! Examples of tokens, tapes and streams.
 
 #[cfg(test)]
+mod ends;
+#[cfg(test)]
 mod filters;
 #[cfg(test)]
 mod made;
