@@ -2,12 +2,13 @@
 ghost use Rattle.std.specs.Prelude.{◌≡◌, ◌⊎◌, IfErr};
 ghost use Rattle.std.specs.Result.{result_ok};
 ghost use Rattle.script_lines.specs.Numbers.{nearest, NumbersRead, StandsFor};
-ghost use Rattle.script_lines.specs.Words.{texts};
+ghost use Rattle.script_lines.specs.Words.{words_left};
 ghost use Rattle.script_lines.specs.declared.faults.LineFault.TheVariants.{TooLarge};
 
 use crate::faults::LineFault;
 use std::alloc::Global;
 use std::num::IntErrorKind;
+use std::str::SplitAsciiWhitespace;
 
 // The i32 nearest to n: n itself where it is one.
 fn clamp(n: i64) -> i32
@@ -31,17 +32,17 @@ fn read_number(word: &str, wrong: LineFault) -> Result<i32, LineFault>
     }
 }
 
-// The numbers that words stand for; or what is wrong, where one is none.
+// The numbers that the words left stand for; or what is wrong, where one is none.
 pub(crate) fn read_numbers(
     heap: Global,
-    words: &[&str],
+    words: SplitAsciiWhitespace<'_>,
     wrong: LineFault,
 ) -> Result<Vec<i32>, LineFault>
-    ensures { NumbersRead wrong (texts words.now) result }
+    ensures { NumbersRead wrong (words_left words.entry) result }
 {
     let mut numbers = Vec::new(heap);
     for word in words {
-        let number = read_number(*word, wrong)?;
+        let number = read_number(word, wrong)?;
         numbers.push(number)?;
     }
     Ok(numbers)
