@@ -84,8 +84,8 @@ impl Directive {
         }
     }
 
-    // The word's row or option with these numbers.
-    fn form(keyword: Keyword, numbers: &[i32]) -> Option<Directive>
+    /// The word's row or option with these numbers; none where it takes another many, or asks a question.
+    pub fn form(keyword: Keyword, numbers: &[i32]) -> Option<Directive>
         ensures { Formed keyword numbers.now result }
     {
         match (keyword, numbers) {

@@ -10,15 +10,16 @@ use std::alloc::Global;
 use std::num::IntErrorKind;
 use std::str::SplitAsciiWhitespace;
 
-// The i32 nearest to n: n itself where it is one.
-fn clamp(n: i64) -> i32
+/// The i32 nearest to n: n itself where it is one.
+pub fn clamp(n: i64) -> i32
     ensures { result ≡ nearest n }
 {
     n.clamp(i64::from(i32::MIN), i64::from(i32::MAX)) as i32
 }
 
-// The number that a word stands for; or what is wrong, where it is none.
-fn read_number(word: &str, wrong: LineFault) -> Result<i32, LineFault>
+/// The number that a word stands for, clamped; or what is wrong, where it is none: that it is too large, or
+/// the fault given.
+pub fn read_number(word: &str, wrong: LineFault) -> Result<i32, LineFault>
     ensures number { StandsFor word.now (result_ok result) }
     ensures fault { IfErr result (λ f. (f ≡ wrong) ⊎ (f ≡ TooLarge)) }
 {
