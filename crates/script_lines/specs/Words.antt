@@ -1,5 +1,5 @@
 -- The words of a line, and what each is the spelling of.
-use Rattle.std.specs.Prelude.{◌≡◌, ◌≢◌, ℕ, List, [], ◌∷◌, length, map, nat_lt, Some, None, Option, Result, IfErr, codes, slice_index}
+use Rattle.std.specs.Prelude.{◌≡◌, ◌≢◌, ◌⊎◌, ℕ, List, [], ◌∷◌, length, map, nat_lt, Some, None, Option, Result, IfErr, codes, slice_index}
 use Rattle.std.specs.Borrow.{Bor}
 use Rattle.std.specs.Char.{is_ascii_whitespace}
 use Rattle.std.specs.List.{filter, join_by, slice_split}
@@ -55,6 +55,10 @@ spelling keyword.Recovery = codes "recovery"
 spelling keyword.Tokens = codes "tokens"
 spelling keyword.Leaf = codes "leaf"
 spelling keyword.Picture = codes "picture"
+
+-- the words that only calls of the parser begin with
+abbrev pub IsCallWord : List ℕ → Type 0
+IsCallWord w = (w ≡ codes "enter") ⊎ (w ≡ codes "leave") ⊎ (w ≡ codes "match") ⊎ (w ≡ codes "wildcard") ⊎ (w ≡ codes "sync") ⊎ (w ≡ codes "report") ⊎ (w ≡ codes "recover")
 
 -- the lookahead's name as it is written
 abbrev pub lookahead_spelling : LookaheadKind → List ℕ

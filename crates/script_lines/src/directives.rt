@@ -1,9 +1,9 @@
 //! What a line says, by its words.
-ghost use Rattle.std.specs.Prelude.{◌≡◌, ◌≢◌, ◌⊎◌, [], ◌∷◌, length, IfOk, IfErr};
+ghost use Rattle.std.specs.Prelude.{◌≡◌, ◌≢◌, ◌⊎◌, [], ◌∷◌, length, Some, IfOk, IfErr};
 ghost use Rattle.std.specs.String.{string_bytes};
-ghost use Rattle.script_lines.specs.Directives.{Formed, IsAskedBy, IsNoQuestion, IsNoRow, IsRowOf, LineRead, NamesWord, WordsRead, keyword_of};
+ghost use Rattle.script_lines.specs.Directives.{Formed, IsAskedBy, IsNoQuestion, IsNoRow, IsRowOf, LineRead, NamesWord, WordsRead, call_numbers, keyword_of};
 ghost use Rattle.script_lines.specs.Questions.{ask_word};
-ghost use Rattle.script_lines.specs.Words.{in_one, spelling, words, words_left};
+ghost use Rattle.script_lines.specs.Words.{IsCallWord, in_one, spelling, words, words_left};
 ghost use Rattle.script_lines.specs.declared.faults.LineFault.TheVariants.{Call, Memory, UnknownWord, WrongForm};
 
 use crate::faults::LineFault;
@@ -133,7 +133,8 @@ impl Directive {
 
 // What is wrong with a first word that no line may begin with.
 fn unknown(word: &str) -> LineFault
-    ensures { (result ≡ UnknownWord) ⊎ (result ≡ Call) }
+    ensures { ((result ≡ UnknownWord) × (IsCallWord word.now → ⊥))
+        ⊎ ((result ≡ Call) × IsCallWord word.now) }
 {
     match word {
         "enter" | "leave" | "match" | "wildcard" | "sync" | "report" | "recover" => {
@@ -146,7 +147,8 @@ fn unknown(word: &str) -> LineFault
 // What is wrong with a line that has so many numbers, where its word takes another many: some calls begin
 // with the word of a row or of a question.
 fn misfit(keyword: Keyword, numbers: usize) -> LineFault
-    ensures { (result ≡ WrongForm keyword) ⊎ (result ≡ Call) }
+    ensures { ((result ≡ WrongForm keyword) × (Some numbers ≢ call_numbers keyword))
+        ⊎ ((result ≡ Call) × (Some numbers ≡ call_numbers keyword)) }
 {
     match (keyword, numbers) {
         (Keyword::State, 1) | (Keyword::Expected | Keyword::Recovery, 0) => LineFault::Call,
@@ -161,7 +163,7 @@ fn read_row(
     rest: SplitAsciiWhitespace<'_>,
 ) -> Result<Directive, LineFault>
     ensures row { IfOk result (λ d. (keyword_of d ≡ keyword) × IsRowOf (words_left rest.entry) d) }
-    ensures names { IfErr result (NamesWord (spelling keyword)) }
+    ensures names { IfErr result (NamesWord (spelling keyword) (words_left rest.entry)) }
     ensures fault { IfErr result (λ f. (f ≡ Memory) ⊎ IsNoRow keyword (words_left rest.entry)) }
 {
     let numbers = read_numbers(heap, rest, LineFault::WrongForm(keyword))?;
@@ -181,7 +183,7 @@ fn read_question(
     requires { words line.now ≡ spelling keyword ∷ words_left rest }
     ensures word { IfOk result (λ q. ask_word q.ask ≡ keyword) }
     ensures question { IfOk result (IsAskedBy (spelling keyword) (words_left rest.entry)) }
-    ensures names { IfErr result (NamesWord (spelling keyword)) }
+    ensures names { IfErr result (NamesWord (spelling keyword) (words_left rest.entry)) }
     ensures fault { IfErr result
         (λ f. (f ≡ Memory) ⊎ IsNoQuestion keyword (words_left rest.entry)) }
 {

@@ -1,9 +1,8 @@
 //! The numbers among the words of a line.
-ghost use Rattle.std.specs.Prelude.{◌≡◌, ◌⊎◌, IfErr};
+ghost use Rattle.std.specs.Prelude.{◌≡◌, IfErr};
 ghost use Rattle.std.specs.Result.{result_ok};
-ghost use Rattle.script_lines.specs.Numbers.{nearest, NumbersRead, StandsFor};
+ghost use Rattle.script_lines.specs.Numbers.{nearest, NumbersRead, StandsFor, WhyNone};
 ghost use Rattle.script_lines.specs.Words.{words_left};
-ghost use Rattle.script_lines.specs.declared.faults.LineFault.TheVariants.{TooLarge};
 
 use crate::faults::LineFault;
 use std::alloc::Global;
@@ -21,7 +20,7 @@ pub fn clamp(n: i64) -> i32
 /// the fault given.
 pub fn read_number(word: &str, wrong: LineFault) -> Result<i32, LineFault>
     ensures number { StandsFor word.now (result_ok result) }
-    ensures fault { IfErr result (λ f. (f ≡ wrong) ⊎ (f ≡ TooLarge)) }
+    ensures fault { IfErr result (WhyNone wrong word.now) }
 {
     let error = match word.parse() {
         Ok(n) => return Ok(clamp(n)),

@@ -1,17 +1,19 @@
-use Rattle.std.proofs.Common.{◌≡◌, ◌∙◌, ◌++◌, ◌∷◌, [], ap, Some, List, ℤ, subst, sym, rules}
-use Rattle.script_lines.specs.Numbers.{StandFor, StandsFor}
+use Rattle.std.proofs.Common.{◌≡◌, ◌∙◌, ◌++◌, ◌∷◌, [], ap, inr, Some, None, Err, subst, sym, rules}
+use Rattle.std.specs.List.{Any}
+use Rattle.script_lines.specs.Numbers.{NumbersRead, StandFor, StandsFor, WhyNone}
 use Rattle.script_lines.specs.Words.{texts, words_left}
-use Rattle.script_lines.proofs.LinesRead.{none_stand}
+use Rattle.script_lines.proofs.LinesRead.{any_at}
 use Rattle.script_lines.proofs.Words.{cut_all, cut_more, first_cut, texts_more}
 use Rattle.script_lines.proofs.Zipped.{zip_push}
 use Rattle.script_lines.proofs.numbers.read_numbers.Goals as goal
 
 pub returns-in_err-number : goal.returns-in_err-number
 returns-in_err-number c =
-    let none : (ns : List ℤ) → StandFor (words_left c.args.words) ns → ⊥ = λ ns s.
-    none_stand (texts c.loop-word.yielded) c.in-Some.word.now _ c.in_err-number.ensures.number ns
-    (subst (λ l. StandFor l ns) (c.loop-word.invariant.cut ∙ ap (λ l. texts c.loop-word.yielded ++ l) (first_cut _ _ c.in-Some.word c.in-Some.ensures.steps)) s) in
-    search (rules, none)
+    let f = c.in_err-number.field-0.0 in
+    let refused : c.from_residual.result ≡ Err f = search rules in
+    let cut = c.loop-word.invariant.cut ∙ ap (λ l. texts c.loop-word.yielded ++ l) (first_cut _ _ c.in-Some.word c.in-Some.ensures.steps) in
+    subst (NumbersRead c.args.wrong (words_left c.args.words)) (sym refused) (inr (subst (Any (λ w. StandsFor w None × WhyNone c.args.wrong w f)) (sym cut)
+    (any_at (λ w. StandsFor w None × WhyNone c.args.wrong w f) (texts c.loop-word.yielded) c.in-Some.word.now _ (c.in_err-number.ensures.number, c.in_err-number.ensures.fault))))
 
 pub loop-word-preserved : goal.loop-word-preserved
 loop-word-preserved c =
