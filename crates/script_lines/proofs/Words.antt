@@ -1,20 +1,19 @@
 -- The words of a line, as `split_ascii_whitespace` cuts them off it.
-use Rattle.std.proofs.Common.{◌≡◌, ◌∙◌, ◌<◌, ◌≤◌, ◌++◌, [], ◌∷◌, ap, false, true, List, ℕ, Some, None, arith, get_or, inl, inr, length, refl, sym, subst}
-use Rattle.std.specs.Prelude.{All, cond, nat_lt}
+use Rattle.std.proofs.Common.{◌≡◌, ◌∙◌, ◌⊎◌, ◌<◌, ◌≤◌, ◌++◌, [], ◌∷◌, ap, append_assoc, false, true, List, ℕ, Some, None, arith, get_or, inl, inr, length, refl, sym}
+use Rattle.std.specs.Prelude.{All, codes, cond, nat_lt}
 use Rattle.std.specs.Borrow.{Bor}
 use Rattle.std.specs.Char.{is_ascii_whitespace}
 use Rattle.std.specs.Str.{NoCharPasses}
-use Rattle.std.specs.Str.Iter.{IsAsciiSeparator, CutsAsciiWord, split_ascii_whitespace_steps, split_ascii_whitespace_text}
+use Rattle.std.specs.Str.Iter.{IsAsciiSeparator, CutsAsciiWord, split_ascii_whitespace_steps}
+use Rattle.std.specs.declared.str.SplitAsciiWhitespace.{SplitAscii}
 use Rattle.std.proofs.lemmas.Bool.{cases_lt}
 use Rattle.std.proofs.lemmas.Str.{NoCharPasses-byte}
-use Rattle.std.proofs.lemmas.List.{append-nil}
+use Rattle.std.proofs.lemmas.List.{append-nil, map-append}
 use Rattle.std.proofs.lemmas.List.Elements.{All-from_get_or, All-tail}
 use Rattle.std.proofs.lemmas.List.Splits.{slice_split_none, slice_split_at, slice_split-cons_yes}
-use Rattle.std.proofs.lemmas.Iterator.{YieldsList}
-use Rattle.std.proofs.lemmas.Iterator.Consumers.{YieldsList-from_shown}
-use Rattle.std.proofs.lemmas.Grind.{common_steps}
-use Rattle.std.specs.List.{filter, flat_map, join_by, slice_split}
-use Rattle.script_lines.specs.Words.{texts, words}
+use Rattle.std.proofs.lemmas.Grind.{common_steps, flat_map-append}
+use Rattle.std.specs.List.{filter, flat_map, slice_split}
+use Rattle.script_lines.specs.Words.{in_one, texts, words, words_left}
 
 -- a byte past ASCII is no white space
 not_white : (b : ℕ) → 128 ≤ b → is_ascii_whitespace b ≡ false
@@ -52,16 +51,23 @@ first_cut text rest x h = ap words h.3.2 ∙ after_gap h.3.0 (x.now ++ (h.3.1 ++
 pub none_cut : (text rest : List ℕ) → CutsAsciiWord text None rest (λ gap w sep. gap ++ (w ++ (sep ++ rest))) → words text ≡ []
 none_cut text rest h = ap words (sym (append-nil text)) ∙ after_gap text [] h.0
 
--- what the words of a line are cut off as
-pub YieldsList-from_words : {s : _} (line : List ℕ) → split_ascii_whitespace_text s ≡ line → YieldsList split_ascii_whitespace_steps (λ x. x.now) s (words line)
-YieldsList-from_words {s} line e = subst (λ l. YieldsList split_ascii_whitespace_steps (λ x. x.now) s (words l)) e
-    (YieldsList-from_shown split_ascii_whitespace_steps (λ x. x.now) (λ t. words (split_ascii_whitespace_text t)) (λ t u h. ap length (none_cut _ _ h)) (λ t x u h. first_cut _ _ x h) s)
+-- one word more among those cut off
+pub texts_more : (xs : List (Bor (List ℕ))) (x : Bor (List ℕ)) → texts (xs ++ x ∷ []) ≡ texts xs ++ x.now ∷ []
+texts_more xs x = map-append (λ w. w.now) xs (x ∷ [])
 
--- borrowed words, joined
-pub joined_texts : (sep : List ℕ) (ws : List (Bor (List ℕ))) → join_by (λ w. w.now) sep ws ≡ join_by (λ w. w) sep (texts ws)
-joined_texts sep [] = refl
-joined_texts sep (w ∷ ws) = ap (λ l. w.now ++ l) (behind ws)
-  where
-    behind : (vs : List (Bor (List ℕ))) → flat_map (λ v. sep ++ v.now) vs ≡ flat_map (λ v. sep ++ v) (texts vs)
-    behind [] = refl
-    behind (v ∷ vs) = ap (λ l. (sep ++ v.now) ++ l) (behind vs)
+-- a word that is cut off is the next of the line
+pub cut_more : (line : List (List ℕ)) (xs : List (Bor (List ℕ))) (x : Bor (List ℕ)) (s t : SplitAscii) → line ≡ texts xs ++ words_left s → split_ascii_whitespace_steps s (Some x) t → line ≡ texts (xs ++ x ∷ []) ++ words_left t
+cut_more line xs x s t so step = so ∙ ap (λ l. texts xs ++ l) (first_cut _ _ x step)
+    ∙ sym (ap (λ l. l ++ words_left t) (texts_more xs x) ∙ append_assoc (texts xs) (x.now ∷ []) (words_left t))
+
+pub cut_all : (line : List (List ℕ)) (xs : List (Bor (List ℕ))) (s t : SplitAscii) → line ≡ texts xs ++ words_left s → split_ascii_whitespace_steps s None t → line ≡ texts xs
+cut_all line xs s t so step = so ∙ ap (λ l. texts xs ++ l) (none_cut _ _ step) ∙ append-nil (texts xs)
+
+-- the words so far in one text: a blank stands before the next where the text has begun
+pub joined_more : (ws : List (List ℕ)) (w text before : List ℕ) → text ≡ in_one ws → (length text ≡ 0 → ws ≡ []) → ((0 < length text) × (before ≡ text ++ codes " ")) ⊎ ((length text ≡ 0) × (before ≡ text)) → before ++ w ≡ in_one (ws ++ w ∷ [])
+joined_more [] w text before is begun (inl more) = absurd (omega (arith, more.0, ap length is))
+joined_more [] w text before is begun (inr none) = ap (λ l. l ++ w) (none.1 ∙ is) ∙ sym (append-nil w)
+joined_more (v ∷ ws) w text before is begun (inr none) = absurd (omega (arith, ap length (begun none.0)))
+joined_more (v ∷ ws) w text before is begun (inl more) =
+    ap (λ l. l ++ w) (more.1 ∙ ap (λ l. l ++ codes " ") is) ∙ append_assoc (in_one (v ∷ ws)) (codes " ") w ∙ append_assoc v (flat_map (λ x. codes " " ++ x) ws) (codes " " ++ w)
+    ∙ sym (ap (λ l. v ++ l) (flat_map-append (λ x. codes " " ++ x) ws (w ∷ []) ∙ ap (λ l. flat_map (λ x. codes " " ++ x) ws ++ l) (append-nil (codes " " ++ w))))

@@ -1,9 +1,9 @@
 -- Lists that agree place by place: one more on both sides, and one place.
-use Rattle.std.proofs.Common.{◌≡◌, ◌∙◌, ℕ, zero, suc, ◌+◌, ◌<◌, List, [], ◌∷◌, ◌++◌, length, get_or, map, take, ap, subst, sym, arith}
+use Rattle.std.proofs.Common.{◌≡◌, ◌∙◌, ℕ, zero, suc, ◌+◌, ◌<◌, List, [], ◌∷◌, ◌++◌, length, get_or, take, ap, subst, sym, arith}
 use Rattle.std.proofs.lemmas.List.{take_more}
 use Rattle.std.specs.List.{AllZip}
 
-zip_push : {A B : Type 0} (R : A → B → Type 0) (xs : List A) (ys : List B) (x : A) (y : B) → AllZip R xs ys → R x y → AllZip R (xs ++ x ∷ []) (ys ++ y ∷ [])
+pub zip_push : {A B : Type 0} (R : A → B → Type 0) (xs : List A) (ys : List B) (x : A) (y : B) → AllZip R xs ys → R x y → AllZip R (xs ++ x ∷ []) (ys ++ y ∷ [])
 zip_push R [] [] x y z r = (r, tt)
 zip_push R [] (b ∷ ys) x y z r = absurd z
 zip_push R (a ∷ xs) [] x y z r = absurd z
@@ -19,16 +19,3 @@ zip_at R [] ys i x y z l = absurd (omega (arith, l))
 zip_at R (a ∷ xs) [] i x y z l = absurd z
 zip_at R (a ∷ xs) (b ∷ ys) zero x y z l = z.0
 zip_at R (a ∷ xs) (b ∷ ys) (suc i) x y z l = zip_at R xs ys i x y z.1 (omega (arith, l))
-
--- where R looks at what v gives
-pub zip_mapped : {A B C : Type 0} (R : C → B → Type 0) (v : A → C) (xs : List A) (ys : List B) → AllZip (λ x y. R (v x) y) xs ys → AllZip R (map v xs) ys
-zip_mapped R v [] [] z = tt
-zip_mapped R v [] (y ∷ ys) z = absurd z
-zip_mapped R v (x ∷ xs) [] z = absurd z
-zip_mapped R v (x ∷ xs) (y ∷ ys) z = (z.0, zip_mapped R v xs ys z.1)
-
-pub zip_unmapped : {A B C : Type 0} (R : C → B → Type 0) (v : A → C) (xs : List A) (ys : List B) → AllZip R (map v xs) ys → AllZip (λ x y. R (v x) y) xs ys
-zip_unmapped R v [] [] z = tt
-zip_unmapped R v [] (y ∷ ys) z = absurd z
-zip_unmapped R v (x ∷ xs) [] z = absurd z
-zip_unmapped R v (x ∷ xs) (y ∷ ys) z = (z.0, zip_unmapped R v xs ys z.1)

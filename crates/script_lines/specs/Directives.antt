@@ -5,14 +5,14 @@ use Rattle.script_lines.specs.declared.directives.Directive.{Directive}
 use Rattle.script_lines.specs.declared.directives.Directive.TheVariants.{Net, Counts, Rule, State, Edge, Interval, Word, Lane, Leaves, Summary, Lookahead, Show, Asked}
 use Rattle.script_lines.specs.declared.token_rows.TokenRow.{TokenRow}
 use Rattle.script_lines.specs.declared.faults.LineFault.{LineFault}
-use Rattle.script_lines.specs.declared.faults.LineFault.TheVariants.{UnknownWord, WrongForm, Memory}
+use Rattle.script_lines.specs.declared.faults.LineFault.TheVariants.{UnknownWord, Call, WrongForm, TooLarge, Memory}
 use Rattle.script_lines.specs.declared.keywords.Keyword.{Keyword}
 use Rattle.script_lines.specs.declared.keywords.Keyword.TheVariants as keyword
 use Rattle.script_lines.specs.declared.questions.Ask.{Ask}
 use Rattle.script_lines.specs.declared.questions.Question.{Question}
-use Rattle.script_lines.specs.Numbers.{StandFor}
+use Rattle.script_lines.specs.Numbers.{OneIsNone, StandFor}
 use Rattle.script_lines.specs.Questions.{ask_word, IsAskedWith}
-use Rattle.script_lines.specs.Words.{IsSpelt, SaysNothing, in_one, lookahead_spelling, show_spelling, spelling}
+use Rattle.script_lines.specs.Words.{IsCallWord, IsSpelt, SaysNothing, in_one, lookahead_spelling, show_spelling, spelling}
 
 -- the word that the directive's line begins with
 abbrev pub keyword_of : Directive → Keyword
@@ -43,6 +43,13 @@ numbers_after keyword.Lane = Some 4
 numbers_after keyword.Leaves = Some 1
 numbers_after keyword.Summary = Some 0
 numbers_after k = None
+
+-- how many numbers follow the word of a row or of a question where the line is a call of the parser
+abbrev pub call_numbers : Keyword → Option ℕ
+call_numbers keyword.State = Some 1
+call_numbers keyword.Expected = Some 0
+call_numbers keyword.Recovery = Some 0
+call_numbers k = None
 
 -- number i of the line, from 0
 abbrev pub number : List ℤ → ℕ → ℤ
@@ -105,16 +112,24 @@ pub record Says (w : List ℕ) (ws : List (List ℕ)) (d : Directive) : Type 0 w
   pub first : w ≡ spelling (keyword_of d)
   pub follows : Follows w ws d
 
--- what the fault says of the line's first word
-abbrev pub NamesWord : List ℕ → LineFault → Type 0
-NamesWord w UnknownWord = IsSpelt spelling w None
-NamesWord w (WrongForm k) = w ≡ spelling k
-NamesWord w f = Unit {0}
+-- The words are a call of the parser that begins with k's word.
+pub record IsCallOf (k : Keyword) (ws : List (List ℕ)) : Type 0 where
+  pub numbers : List ℤ
+  pub stand : StandFor ws numbers
+  pub many : Some (length numbers) ≡ call_numbers k
+
+-- what the fault says of the line's first word, w, and of those after it
+abbrev pub NamesWord : List ℕ → List (List ℕ) → LineFault → Type 0
+NamesWord w ws UnknownWord = IsSpelt spelling w None × (IsCallWord w → ⊥)
+NamesWord w ws Call = IsCallWord w ⊎ ((k : Keyword) × (w ≡ spelling k) × IsCallOf k ws)
+NamesWord w ws (WrongForm k) = (w ≡ spelling k) × (IsCallOf k ws → ⊥)
+NamesWord w ws TooLarge = (k : Keyword) × (w ≡ spelling k) × OneIsNone ws
+NamesWord w ws Memory = (k : Keyword) × (w ≡ spelling k)
 
 -- The words are read as a directive that they say. They are refused only if they say none, or if memory runs out.
 abbrev pub WordsRead : List ℕ → List (List ℕ) → Result Directive LineFault → Type 0
 WordsRead w ws (Ok d) = Says w ws d
-WordsRead w ws (Err f) = NamesWord w f × ((f ≡ Memory) ⊎ ((d : Directive) → Says w ws d → ⊥))
+WordsRead w ws (Err f) = NamesWord w ws f × ((f ≡ Memory) ⊎ ((d : Directive) → Says w ws d → ⊥))
 
 -- A line that says nothing is read as nothing, and any other as its words say.
 abbrev pub LineRead : List (List ℕ) → Result (Option Directive) LineFault → Type 0

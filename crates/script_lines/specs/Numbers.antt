@@ -1,7 +1,7 @@
 -- Which words are numbers, and the number of 32 bits that each stands for.
 use Rattle.std.specs.Prelude.{◌≡◌, ◌⊎◌, ℕ, List, ℤ, pos, negsuc, Some, None, Ok, Err, Option, Result, FitsSigned}
 use Rattle.std.specs.Global.{Vec}
-use Rattle.std.specs.List.{AllZip}
+use Rattle.std.specs.List.{AllZip, Any}
 use Rattle.std.specs.Int.{int_min, int_max, w64}
 use Rattle.std.specs.Str.Parse.{IsNumeral, without_leading_sign, signed_digits_value}
 use Rattle.script_lines.specs.declared.faults.LineFault.{LineFault}
@@ -31,8 +31,17 @@ StandsFor w None = IsNumber w → ⊥
 abbrev pub StandFor : List (List ℕ) → List ℤ → Type 0
 StandFor = AllZip (λ w n. StandsFor w (Some n))
 
+-- one of the words is no number
+abbrev pub OneIsNone : List (List ℕ) → Type 0
+OneIsNone = Any (λ w. StandsFor w None)
+
+-- The fault of a word that is no number. Digits alone, perhaps after a sign, are too large; what is no numeral is wrong,
+-- or too large by the digits that it begins with.
+abbrev pub WhyNone : LineFault → List ℕ → LineFault → Type 0
+WhyNone wrong w f = ((f ≡ wrong) × (IsNumeral 10 (without_leading_sign w) → ⊥)) ⊎ (f ≡ TooLarge)
+
 -- The words are read as the numbers that they stand for. They are refused only if one stands for none, or if memory runs
 -- out; then with a fault of its own.
 abbrev pub NumbersRead : LineFault → List (List ℕ) → Result (Vec ℤ) LineFault → Type 0
 NumbersRead wrong ws (Ok v) = StandFor ws v.items
-NumbersRead wrong ws (Err f) = (f ≡ Memory) ⊎ (((f ≡ wrong) ⊎ (f ≡ TooLarge)) × ((ns : List ℤ) → StandFor ws ns → ⊥))
+NumbersRead wrong ws (Err f) = (f ≡ Memory) ⊎ Any (λ w. StandsFor w None × WhyNone wrong w f) ws

@@ -1,9 +1,11 @@
 -- The words of a line, and what each is the spelling of.
-use Rattle.std.specs.Prelude.{◌≡◌, ◌≢◌, ℕ, List, [], ◌∷◌, length, map, nat_lt, Some, None, Option, Result, IfErr, codes, slice_index}
+use Rattle.std.specs.Prelude.{◌≡◌, ◌≢◌, ◌⊎◌, ℕ, List, [], ◌∷◌, length, map, nat_lt, Some, None, Option, Result, IfErr, codes, slice_index}
 use Rattle.std.specs.Borrow.{Bor}
 use Rattle.std.specs.Char.{is_ascii_whitespace}
 use Rattle.std.specs.List.{filter, join_by, slice_split}
 use Rattle.std.specs.Result.{result_ok}
+use Rattle.std.specs.Str.Iter.{split_ascii_whitespace_text}
+use Rattle.std.specs.declared.str.SplitAsciiWhitespace.{SplitAscii}
 use Rattle.script_lines.specs.declared.keywords.Keyword.{Keyword}
 use Rattle.script_lines.specs.declared.keywords.Keyword.TheVariants as keyword
 use Rattle.script_lines.specs.declared.options.LookaheadKind.{LookaheadKind}
@@ -14,6 +16,10 @@ use Rattle.script_lines.specs.declared.options.Show.TheVariants.{All, Channel0}
 -- the words of a line: what stands between its ASCII white space, where that is not empty
 abbrev pub words : List ℕ → List (List ℕ)
 words line = filter (λ w. nat_lt 0 (length w)) (slice_split is_ascii_whitespace line)
+
+-- the words that are still to be cut off a line
+abbrev pub words_left : SplitAscii → List (List ℕ)
+words_left s = words (split_ascii_whitespace_text s)
 
 -- the words with one blank between two
 abbrev pub in_one : List (List ℕ) → List ℕ
@@ -49,6 +55,10 @@ spelling keyword.Recovery = codes "recovery"
 spelling keyword.Tokens = codes "tokens"
 spelling keyword.Leaf = codes "leaf"
 spelling keyword.Picture = codes "picture"
+
+-- the words that only calls of the parser begin with
+abbrev pub IsCallWord : List ℕ → Type 0
+IsCallWord w = (w ≡ codes "enter") ⊎ (w ≡ codes "leave") ⊎ (w ≡ codes "match") ⊎ (w ≡ codes "wildcard") ⊎ (w ≡ codes "sync") ⊎ (w ≡ codes "report") ⊎ (w ≡ codes "recover")
 
 -- the lookahead's name as it is written
 abbrev pub lookahead_spelling : LookaheadKind → List ℕ

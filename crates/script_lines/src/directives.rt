@@ -1,9 +1,9 @@
 //! What a line says, by its words.
-ghost use Rattle.std.specs.Prelude.{◌≡◌, ◌≢◌, ◌⊎◌, [], ◌∷◌, length, IfOk, IfErr};
+ghost use Rattle.std.specs.Prelude.{◌≡◌, ◌≢◌, ◌⊎◌, [], ◌∷◌, length, Some, IfOk, IfErr};
 ghost use Rattle.std.specs.String.{string_bytes};
-ghost use Rattle.script_lines.specs.Directives.{Formed, IsAskedBy, IsNoQuestion, IsNoRow, IsRowOf, LineRead, NamesWord, WordsRead, keyword_of};
+ghost use Rattle.script_lines.specs.Directives.{Formed, IsAskedBy, IsNoQuestion, IsNoRow, IsRowOf, LineRead, NamesWord, WordsRead, call_numbers, keyword_of};
 ghost use Rattle.script_lines.specs.Questions.{ask_word};
-ghost use Rattle.script_lines.specs.Words.{in_one, spelling, texts, words};
+ghost use Rattle.script_lines.specs.Words.{IsCallWord, in_one, spelling, words, words_left};
 ghost use Rattle.script_lines.specs.declared.faults.LineFault.TheVariants.{Call, Memory, UnknownWord, WrongForm};
 
 use crate::faults::LineFault;
@@ -15,6 +15,7 @@ use crate::token_rows::{LaneRow, TokenRow, WordRow};
 use atn_graph::{Counts, EdgeRow, RuleRow, StateRow};
 use interval_set::Interval;
 use std::alloc::{AllocError, Global};
+use std::str::SplitAsciiWhitespace;
 use token::Span;
 
 /// What one line of a script says.
@@ -55,8 +56,7 @@ impl Directive {
         if first.starts_with('#') {
             return Ok(None);
         }
-        let rest: Vec<&str> = words.collect(heap)?;
-        Ok(Some(Directive::of_words(heap, line, first, rest.as_slice())?))
+        Ok(Some(Directive::of_words(heap, line, first, words)?))
     }
 
     // What the words of the line say, the first and the rest.
@@ -64,10 +64,10 @@ impl Directive {
         heap: Global,
         line: &str,
         first: &str,
-        rest: &[&str],
+        rest: SplitAsciiWhitespace<'_>,
     ) -> Result<Directive, LineFault>
-        requires { words line.now ≡ first.now ∷ texts rest.now }
-        ensures { WordsRead first.now (texts rest.now) result }
+        requires { words line.now ≡ first.now ∷ words_left rest }
+        ensures { WordsRead first.now (words_left rest.entry) result }
     {
         let keyword: Keyword = match first.parse() {
             Ok(keyword) => keyword,
@@ -84,8 +84,8 @@ impl Directive {
         }
     }
 
-    // The word's row or option with these numbers.
-    fn form(keyword: Keyword, numbers: &[i32]) -> Option<Directive>
+    /// The word's row or option with these numbers; none where it takes another many, or asks a question.
+    pub fn form(keyword: Keyword, numbers: &[i32]) -> Option<Directive>
         ensures { Formed keyword numbers.now result }
     {
         match (keyword, numbers) {
@@ -133,7 +133,8 @@ impl Directive {
 
 // What is wrong with a first word that no line may begin with.
 fn unknown(word: &str) -> LineFault
-    ensures { (result ≡ UnknownWord) ⊎ (result ≡ Call) }
+    ensures { ((result ≡ UnknownWord) × (IsCallWord word.now → ⊥))
+        ⊎ ((result ≡ Call) × IsCallWord word.now) }
 {
     match word {
         "enter" | "leave" | "match" | "wildcard" | "sync" | "report" | "recover" => {
@@ -146,7 +147,8 @@ fn unknown(word: &str) -> LineFault
 // What is wrong with a line that has so many numbers, where its word takes another many: some calls begin
 // with the word of a row or of a question.
 fn misfit(keyword: Keyword, numbers: usize) -> LineFault
-    ensures { (result ≡ WrongForm keyword) ⊎ (result ≡ Call) }
+    ensures { ((result ≡ WrongForm keyword) × (Some numbers ≢ call_numbers keyword))
+        ⊎ ((result ≡ Call) × (Some numbers ≡ call_numbers keyword)) }
 {
     match (keyword, numbers) {
         (Keyword::State, 1) | (Keyword::Expected | Keyword::Recovery, 0) => LineFault::Call,
@@ -155,14 +157,18 @@ fn misfit(keyword: Keyword, numbers: usize) -> LineFault
 }
 
 // The row or option of the word with the words after it.
-fn read_row(heap: Global, keyword: Keyword, rest: &[&str]) -> Result<Directive, LineFault>
-    ensures row { IfOk result (λ d. (keyword_of d ≡ keyword) × IsRowOf (texts rest.now) d) }
-    ensures names { IfErr result (NamesWord (spelling keyword)) }
-    ensures fault { IfErr result (λ f. (f ≡ Memory) ⊎ IsNoRow keyword (texts rest.now)) }
+fn read_row(
+    heap: Global,
+    keyword: Keyword,
+    rest: SplitAsciiWhitespace<'_>,
+) -> Result<Directive, LineFault>
+    ensures row { IfOk result (λ d. (keyword_of d ≡ keyword) × IsRowOf (words_left rest.entry) d) }
+    ensures names { IfErr result (NamesWord (spelling keyword) (words_left rest.entry)) }
+    ensures fault { IfErr result (λ f. (f ≡ Memory) ⊎ IsNoRow keyword (words_left rest.entry)) }
 {
     let numbers = read_numbers(heap, rest, LineFault::WrongForm(keyword))?;
     let Some(row) = Directive::form(keyword, numbers.as_slice()) else {
-        return Err(misfit(keyword, rest.len()));
+        return Err(misfit(keyword, numbers.len()));
     };
     Ok(row)
 }
@@ -172,29 +178,32 @@ fn read_question(
     heap: Global,
     line: &str,
     keyword: Keyword,
-    rest: &[&str],
+    rest: SplitAsciiWhitespace<'_>,
 ) -> Result<Question, LineFault>
-    requires { words line.now ≡ spelling keyword ∷ texts rest.now }
+    requires { words line.now ≡ spelling keyword ∷ words_left rest }
     ensures word { IfOk result (λ q. ask_word q.ask ≡ keyword) }
-    ensures question { IfOk result (IsAskedBy (spelling keyword) (texts rest.now)) }
-    ensures names { IfErr result (NamesWord (spelling keyword)) }
-    ensures fault { IfErr result (λ f. (f ≡ Memory) ⊎ IsNoQuestion keyword (texts rest.now)) }
+    ensures question { IfOk result (IsAskedBy (spelling keyword) (words_left rest.entry)) }
+    ensures names { IfErr result (NamesWord (spelling keyword) (words_left rest.entry)) }
+    ensures fault { IfErr result
+        (λ f. (f ≡ Memory) ⊎ IsNoQuestion keyword (words_left rest.entry)) }
 {
     let numbers = read_numbers(heap, rest, LineFault::WrongForm(keyword))?;
     let Some(ask) = Ask::form(heap, keyword, numbers.as_slice())? else {
-        return Err(misfit(keyword, rest.len()));
+        return Err(misfit(keyword, numbers.len()));
     };
     let words = single_blanks(heap, line)?;
     Ok(Question { words, ask })
 }
 
-// The one word.
-fn only_word<'a>(words: &[&'a str], keyword: Keyword) -> Result<&'a str, LineFault>
-    ensures word { IfOk result (λ w. texts words.now ≡ w.now ∷ []) }
-    ensures fault { IfErr result (λ f. (f ≡ WrongForm keyword) × (length words.now ≢ 1)) }
+// The one word that is left.
+fn only_word<'a>(words: SplitAsciiWhitespace<'a>, keyword: Keyword) -> Result<&'a str, LineFault>
+    ensures word { IfOk result (λ w. words_left words.entry ≡ w.now ∷ []) }
+    ensures fault { IfErr result
+        (λ f. (f ≡ WrongForm keyword) × (length (words_left words.entry) ≢ 1)) }
 {
-    match words {
-        [word] => Ok(*word),
+    let mut left = words;
+    match (left.next(), left.next()) {
+        (Some(word), None) => Ok(word),
         _ => Err(LineFault::WrongForm(keyword)),
     }
 }
@@ -203,6 +212,12 @@ fn only_word<'a>(words: &[&'a str], keyword: Keyword) -> Result<&'a str, LineFau
 fn single_blanks(heap: Global, line: &str) -> Result<String, AllocError>
     ensures { IfOk result (λ t. string_bytes t ≡ in_one (words line.now)) }
 {
-    let words: Vec<&str> = line.split_ascii_whitespace().collect(heap)?;
-    words.as_slice().join(heap, " ")
+    let mut text = String::new(heap);
+    for word in line.split_ascii_whitespace() {
+        if !text.is_empty() {
+            text.push_str(" ")?;
+        }
+        text.push_str(word)?;
+    }
+    Ok(text)
 }

@@ -14,6 +14,7 @@ mod token_rows;
 pub use directives::Directive;
 pub use faults::LineFault;
 pub use keywords::Keyword;
+pub use numbers::{clamp, read_number};
 pub use options::{LookaheadKind, Show};
-pub use questions::{Ask, Question};
+pub use questions::{Ask, Question, state_number};
 pub use token_rows::{LaneRow, TokenRow, WordRow};

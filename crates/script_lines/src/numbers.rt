@@ -1,25 +1,26 @@
 //! The numbers among the words of a line.
-ghost use Rattle.std.specs.Prelude.{◌≡◌, ◌⊎◌, IfErr};
+ghost use Rattle.std.specs.Prelude.{◌≡◌, IfErr};
 ghost use Rattle.std.specs.Result.{result_ok};
-ghost use Rattle.script_lines.specs.Numbers.{nearest, NumbersRead, StandsFor};
-ghost use Rattle.script_lines.specs.Words.{texts};
-ghost use Rattle.script_lines.specs.declared.faults.LineFault.TheVariants.{TooLarge};
+ghost use Rattle.script_lines.specs.Numbers.{nearest, NumbersRead, StandsFor, WhyNone};
+ghost use Rattle.script_lines.specs.Words.{words_left};
 
 use crate::faults::LineFault;
 use std::alloc::Global;
 use std::num::IntErrorKind;
+use std::str::SplitAsciiWhitespace;
 
-// The i32 nearest to n: n itself where it is one.
-fn clamp(n: i64) -> i32
+/// The i32 nearest to n: n itself where it is one.
+pub fn clamp(n: i64) -> i32
     ensures { result ≡ nearest n }
 {
     n.clamp(i64::from(i32::MIN), i64::from(i32::MAX)) as i32
 }
 
-// The number that a word stands for; or what is wrong, where it is none.
-fn read_number(word: &str, wrong: LineFault) -> Result<i32, LineFault>
+/// The number that a word stands for, clamped; or what is wrong, where it is none: that it is too large, or
+/// the fault given.
+pub fn read_number(word: &str, wrong: LineFault) -> Result<i32, LineFault>
     ensures number { StandsFor word.now (result_ok result) }
-    ensures fault { IfErr result (λ f. (f ≡ wrong) ⊎ (f ≡ TooLarge)) }
+    ensures fault { IfErr result (WhyNone wrong word.now) }
 {
     let error = match word.parse() {
         Ok(n) => return Ok(clamp(n)),
@@ -31,17 +32,17 @@ fn read_number(word: &str, wrong: LineFault) -> Result<i32, LineFault>
     }
 }
 
-// The numbers that words stand for; or what is wrong, where one is none.
+// The numbers that the words left stand for; or what is wrong, where one is none.
 pub(crate) fn read_numbers(
     heap: Global,
-    words: &[&str],
+    words: SplitAsciiWhitespace<'_>,
     wrong: LineFault,
 ) -> Result<Vec<i32>, LineFault>
-    ensures { NumbersRead wrong (texts words.now) result }
+    ensures { NumbersRead wrong (words_left words.entry) result }
 {
     let mut numbers = Vec::new(heap);
     for word in words {
-        let number = read_number(*word, wrong)?;
+        let number = read_number(word, wrong)?;
         numbers.push(number)?;
     }
     Ok(numbers)

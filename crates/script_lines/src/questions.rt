@@ -27,9 +27,9 @@ pub struct Question {
     pub ask: Ask,
 }
 
-// The state that a number names. One below 0 names none, like any past the last state; kept a number, as
-// questions are asked by any number.
-fn state_number(n: i32) -> usize
+/// The state that a number names. One below 0 names none, like any past the last state; kept a number, as
+/// questions are asked by any number.
+pub fn state_number(n: i32) -> usize
     ensures { result ≡ state_number n }
 {
     usize::try_from(n).unwrap_or(usize::MAX)
@@ -42,13 +42,9 @@ fn state_numbers(heap: Global, numbers: &[i32]) -> Result<Vec<usize>, AllocError
 }
 
 impl Ask {
-    // What the word asks with these numbers. A chain may be empty, but a question for the recovery set
-    // has one; a question for the tokens or the picture has no number.
-    pub(crate) fn form(
-        heap: Global,
-        keyword: Keyword,
-        numbers: &[i32],
-    ) -> Result<Option<Ask>, AllocError>
+    /// What the word asks with these numbers; none where no question is so written. A chain may be empty, but
+    /// a question for the recovery set has one; a question for the tokens or the picture has no number.
+    pub fn form(heap: Global, keyword: Keyword, numbers: &[i32]) -> Result<Option<Ask>, AllocError>
         ensures { IfOk result (Forms keyword numbers.now) }
     {
         let states = state_numbers(heap, numbers)?;

@@ -1,13 +1,10 @@
-use Rattle.std.proofs.Common.{◌≡◌, ◌∙◌, [], ◌∷◌, Ok, Err, ap, inl, refl, sym, subst, arith, rules}
-use Rattle.std.specs.declared.alloc.AllocError.{AllocError}
+use Rattle.std.proofs.Common.{◌≡◌, ◌∙◌, [], ap, sym, subst, arith, rules, Err}
 use Rattle.std.proofs.lemmas.Bool.{both_ways}
-use Rattle.std.proofs.lemmas.Iterator.Consumers.{map_from_collect}
 use Rattle.std.proofs.lemmas.Str.Pattern.{starts_char}
 use Rattle.script_lines.specs.Directives.{LineRead}
-use Rattle.script_lines.specs.Words.{SaysNothing, texts, words}
-use Rattle.script_lines.specs.declared.faults.LineFault.TheVariants.{Memory}
+use Rattle.script_lines.specs.Words.{SaysNothing, words}
 use Rattle.script_lines.proofs.LinesRead.{read_err, read_ok}
-use Rattle.script_lines.proofs.Words.{YieldsList-from_words, first_cut, none_cut}
+use Rattle.script_lines.proofs.Words.{first_cut, none_cut}
 use Rattle.script_lines.proofs.directives.Directive.read.Goals as goal
 
 pub returns-in_default : goal.returns-in_default
@@ -20,29 +17,17 @@ returns-then-starts_with c =
     let cut = ap words (sym c.split_ascii_whitespace-words.ensures.text) ∙ first_cut _ _ c.in-Some.first c.in-Some.ensures.steps in
     subst SaysNothing (sym cut) (c.if-starts_with.ensures.cases.1.byte (omega arith))
 
-pub returns-in_err-rest : goal.returns-in_err-rest
-returns-in_err-rest c =
-    let memory : c.from_residual.result ≡ Err Memory = search rules in
-    let cut = ap words (sym c.split_ascii_whitespace-words.ensures.text) ∙ first_cut _ _ c.in-Some.first c.in-Some.ensures.steps in
-    subst (LineRead (words c.args.line.now)) (sym memory) (read_err _ _ _ Memory cut (λ hash. both_ways _ c.if-starts_with.false ((starts_char 35 _ _ c.starts_with.ensures.cases (omega arith) (omega arith)).1 hash)) (tt, inl refl))
-
 pub of_words-requires : goal.of_words-requires
-of_words-requires c =
-    let cut = ap words (sym c.split_ascii_whitespace-words.ensures.text) ∙ first_cut _ _ c.in-Some.first c.in-Some.ensures.steps in
-    let rest = map_from_collect {E = AllocError} (Ok c.in_ok-rest.rest) c.in_ok-rest.ensures.ran (YieldsList-from_words _ refl) in
-    cut ∙ ap (λ ws. c.in-Some.first.now ∷ ws) (sym rest ∙ ap texts (sym c.as_slice.ensures.value))
+of_words-requires c = ap words (sym c.split_ascii_whitespace-words.ensures.text) ∙ first_cut _ _ c.in-Some.first c.in-Some.ensures.steps
 
 pub returns-in_err-of_words : goal.returns-in_err-of_words
 returns-in_err-of_words c =
-    let refused : c.from_residual-in_err-of_words.result ≡ Err c.in_err-of_words.field-0.0 = search rules in
+    let refused : c.from_residual.result ≡ Err c.in_err-of_words.field-0.0 = search rules in
     let cut = ap words (sym c.split_ascii_whitespace-words.ensures.text) ∙ first_cut _ _ c.in-Some.first c.in-Some.ensures.steps in
-    let rest = map_from_collect {E = AllocError} (Ok c.in_ok-rest.rest) c.in_ok-rest.ensures.ran (YieldsList-from_words _ refl) in
-    subst (LineRead (words c.args.line.now)) (sym refused) (read_err _ _ _ _ (cut ∙ ap (λ ws. c.in-Some.first.now ∷ ws) (sym rest ∙ ap texts (sym c.as_slice.ensures.value)))
+    subst (LineRead (words c.args.line.now)) (sym refused) (read_err _ _ _ _ cut
     (λ hash. both_ways _ c.if-starts_with.false ((starts_char 35 _ _ c.starts_with.ensures.cases (omega arith) (omega arith)).1 hash)) c.in_err-of_words.ensures)
 
 pub returns : goal.returns
 returns c =
     let cut = ap words (sym c.split_ascii_whitespace-words.ensures.text) ∙ first_cut _ _ c.in-Some.first c.in-Some.ensures.steps in
-    let rest = map_from_collect {E = AllocError} (Ok c.in_ok-rest.rest) c.in_ok-rest.ensures.ran (YieldsList-from_words _ refl) in
-    read_ok _ _ _ _ (cut ∙ ap (λ ws. c.in-Some.first.now ∷ ws) (sym rest ∙ ap texts (sym c.as_slice.ensures.value)))
-    (λ hash. both_ways _ c.if-starts_with.false ((starts_char 35 _ _ c.starts_with.ensures.cases (omega arith) (omega arith)).1 hash)) c.in_ok-of_words.ensures
+    read_ok _ _ _ _ cut (λ hash. both_ways _ c.if-starts_with.false ((starts_char 35 _ _ c.starts_with.ensures.cases (omega arith) (omega arith)).1 hash)) c.in_ok-of_words.ensures
