@@ -66,8 +66,8 @@ impl Script {
         Ok(script)
     }
 
-    // A script that says nothing yet.
-    fn new(heap: Global) -> Script
+    /// A script that says nothing yet.
+    pub fn new(heap: Global) -> Script
         ensures { content result ≡ nothing_said }
     {
         Script {
@@ -87,9 +87,9 @@ impl Script {
         }
     }
 
-    // Takes a line in. A row or an option comes before the first question, and a refused line alters
-    // nothing.
-    fn take(&mut self, directive: Directive) -> Result<(), Fault>
+    /// Takes a line in. A row or an option comes before the first question, and a refused line alters
+    /// nothing.
+    pub fn take(&mut self, directive: Directive) -> Result<(), Fault>
         ensures taken { Taken directive (content self.old) result (content self.new) }
         ensures not_the_net { IfErr result (λ f. f ≢ NoNet) }
     {
@@ -100,8 +100,8 @@ impl Script {
         }
     }
 
-    // Takes a row or an option in.
-    fn apply(&mut self, directive: Directive) -> Result<(), Fault>
+    /// Takes a line in, also a row or an option after a question. A refused line alters nothing.
+    pub fn apply(&mut self, directive: Directive) -> Result<(), Fault>
         ensures applied { Applied directive (content self.old) result (content self.new) }
         ensures not_the_net { IfErr result (λ f. f ≢ NoNet) }
     {
