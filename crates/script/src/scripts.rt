@@ -11,7 +11,7 @@ use crate::rows::Rows;
 use atn_graph::{Counts, EdgeRow, RuleRow, StateRow, Tables};
 use interval_set::Interval;
 use script_lines::{
-    Directive, Keyword, LaneRow, LineFault, LookaheadKind, Question, Show, WordRow,
+    Directive, LaneRow, LineFault, LookaheadKind, Question, Show, WordRow,
 };
 use std::alloc::Global;
 
@@ -241,8 +241,8 @@ fn asks(line: &str) -> bool
     let Some(first) = line.split_ascii_whitespace().next() else {
         return false;
     };
-    match first.parse() {
-        Ok(keyword) => Keyword::asks(keyword),
-        Err(_) => false,
-    }
+    matches!(
+        first,
+        "within" | "in-context" | "expected" | "recovery" | "tokens" | "leaf" | "picture"
+    )
 }

@@ -1,9 +1,7 @@
 use Rattle.std.specs.Prelude.{codes}
-use Rattle.std.specs.Str.{bytes_eq}
-use Rattle.std.specs.List.{list_any}
-use Rattle.std.proofs.Common.{◌≡◌, ◌∙◌, ℕ, Bool, List, [], ◌∷◌, true, ap, refl, sym}
-use Rattle.std.proofs.lemmas.Bool.{both_ways}
-use Rattle.std.specs.Str.Iter.{split_ascii_whitespace_text}
+use Rattle.std.specs.Borrow.{Bor}
+use Rattle.std.specs.Str.Iter.{CutsAsciiWord}
+use Rattle.std.proofs.Common.{◌≡◌, ◌∙◌, ◌++◌, ℕ, List, [], ◌∷◌, Some, true, ap, refl, sym}
 use Rattle.script_lines.specs.declared.keywords.Keyword.{Keyword}
 use Rattle.script_lines.specs.declared.keywords.Keyword.TheVariants as keyword
 use Rattle.script_lines.specs.Questions.{asks}
@@ -12,37 +10,39 @@ use Rattle.script_lines.proofs.Words.{first_cut, none_cut}
 use Rattle.script.specs.Taking.{AsksFirst}
 use Rattle.script.proofs.scripts.asks.Goals as goal
 
--- the word is that of a question
-asks_word : List ℕ → Bool
-asks_word w = list_any (bytes_eq w) (codes "within" ∷ codes "in-context" ∷ codes "expected" ∷ codes "recovery" ∷ codes "tokens" ∷ codes "leaf" ∷ codes "picture" ∷ [])
+-- the line's first word is x
+module _ (line text rest : List ℕ) (x : Bor (List ℕ)) (whole : text ≡ line) (off : CutsAsciiWord text (Some x) rest (λ gap w sep. gap ++ (w ++ (sep ++ rest)))) where
+  cut : words line ≡ x.now ∷ words rest
+  cut = ap words (sym whole) ∙ first_cut text rest x off
 
-by_spelling : (k : Keyword) → asks_word (spelling k) ≡ asks k
-unfolding asks_word
-by_spelling keyword.Net = refl
-by_spelling keyword.Counts = refl
-by_spelling keyword.Rule = refl
-by_spelling keyword.State = refl
-by_spelling keyword.Edge = refl
-by_spelling keyword.Interval = refl
-by_spelling keyword.Word = refl
-by_spelling keyword.Lane = refl
-by_spelling keyword.Leaves = refl
-by_spelling keyword.Summary = refl
-by_spelling keyword.Lookahead = refl
-by_spelling keyword.Show = refl
-by_spelling keyword.Within = refl
-by_spelling keyword.InContext = refl
-by_spelling keyword.Expected = refl
-by_spelling keyword.Recovery = refl
-by_spelling keyword.Tokens = refl
-by_spelling keyword.Leaf = refl
-by_spelling keyword.Picture = refl
+  asks_first : (k : Keyword) → asks k ≡ true → x.now ≡ spelling k → AsksFirst (words line)
+  asks_first k asked is = record { keyword = k; rest = words rest; spelt = cut ∙ ap (λ w. w ∷ words rest) is; asks = asked }
 
-first_of : (w : List ℕ) (ws : List (List ℕ)) (line : List (List ℕ)) (k : Keyword) → line ≡ w ∷ ws → w ≡ spelling k → (a : AsksFirst line) → asks k ≡ true
-first_of w ws line k cut is a =
-    let both : w ∷ ws ≡ spelling a.keyword ∷ a.rest = sym cut ∙ a.spelt in
-    let same : spelling k ≡ spelling a.keyword = cc in
-    sym (by_spelling k) ∙ ap asks_word same ∙ by_spelling a.keyword ∙ a.asks
+  spelt : (a : AsksFirst (words line)) → x.now ≡ spelling a.keyword
+  spelt a =
+      let both : x.now ∷ words rest ≡ spelling a.keyword ∷ a.rest = sym cut ∙ a.spelt in
+      cc
+
+none_of_seven : (w : List ℕ) (k : Keyword) → asks k ≡ true → w ≡ spelling k → (w ≡ codes "within" → ⊥) → (w ≡ codes "in-context" → ⊥) → (w ≡ codes "expected" → ⊥) → (w ≡ codes "recovery" → ⊥) → (w ≡ codes "tokens" → ⊥) → (w ≡ codes "leaf" → ⊥) → (w ≡ codes "picture" → ⊥) → ⊥
+none_of_seven w keyword.Net asked is within text expected recovery tokens leaf picture = absurd (cc)
+none_of_seven w keyword.Counts asked is within text expected recovery tokens leaf picture = absurd (cc)
+none_of_seven w keyword.Rule asked is within text expected recovery tokens leaf picture = absurd (cc)
+none_of_seven w keyword.State asked is within text expected recovery tokens leaf picture = absurd (cc)
+none_of_seven w keyword.Edge asked is within text expected recovery tokens leaf picture = absurd (cc)
+none_of_seven w keyword.Interval asked is within text expected recovery tokens leaf picture = absurd (cc)
+none_of_seven w keyword.Word asked is within text expected recovery tokens leaf picture = absurd (cc)
+none_of_seven w keyword.Lane asked is within text expected recovery tokens leaf picture = absurd (cc)
+none_of_seven w keyword.Leaves asked is within text expected recovery tokens leaf picture = absurd (cc)
+none_of_seven w keyword.Summary asked is within text expected recovery tokens leaf picture = absurd (cc)
+none_of_seven w keyword.Lookahead asked is within text expected recovery tokens leaf picture = absurd (cc)
+none_of_seven w keyword.Show asked is within text expected recovery tokens leaf picture = absurd (cc)
+none_of_seven w keyword.Within asked is within text expected recovery tokens leaf picture = within is
+none_of_seven w keyword.InContext asked is within text expected recovery tokens leaf picture = text is
+none_of_seven w keyword.Expected asked is within text expected recovery tokens leaf picture = expected is
+none_of_seven w keyword.Recovery asked is within text expected recovery tokens leaf picture = recovery is
+none_of_seven w keyword.Tokens asked is within text expected recovery tokens leaf picture = tokens is
+none_of_seven w keyword.Leaf asked is within text expected recovery tokens leaf picture = leaf is
+none_of_seven w keyword.Picture asked is within text expected recovery tokens leaf picture = picture is
 
 pub returns-in_default-clause-asks_not : goal.returns-in_default-clause-asks_not
 returns-in_default-clause-asks_not c no_word a =
@@ -50,21 +50,28 @@ returns-in_default-clause-asks_not c no_word a =
     let first : [] ≡ spelling a.keyword ∷ a.rest = sym none ∙ a.spelt in
     cc
 
-pub returns-in-Ok-clause-asks : goal.returns-in-Ok-clause-asks
-returns-in-Ok-clause-asks c asked = record {
-  keyword = c.in-Ok.keyword;
-  rest = words (split_ascii_whitespace_text c.next.new.self);
-  spelt = ap words (sym c.split_ascii_whitespace.ensures.text) ∙ first_cut _ _ c.in-Some.first c.in-Some.ensures.steps ∙ ap (λ w. w ∷ words (split_ascii_whitespace_text c.next.new.self)) c.in-Ok.ensures.value.0;
-  asks = sym c.asks.ensures ∙ asked;
-}
+pub returns-in_default-matches-clause-asks_not : goal.returns-in_default-matches-clause-asks_not
+returns-in_default-matches-clause-asks_not c other a =
+    let not = c.in_default-matches in
+    none_of_seven c.in-Some.first.now a.keyword a.asks (spelt _ _ _ c.in-Some.first c.split_ascii_whitespace.ensures.text c.in-Some.ensures.steps a) not.not-within not.not-text not.not-expected not.not-recovery not.not-tokens not.not-leaf not.not-picture
 
-pub returns-in-Ok-clause-asks_not : goal.returns-in-Ok-clause-asks_not
-returns-in-Ok-clause-asks_not c other a =
-    let cut = ap words (sym c.split_ascii_whitespace.ensures.text) ∙ first_cut _ _ c.in-Some.first c.in-Some.ensures.steps in
-    both_ways _ (sym c.asks.ensures ∙ other) (first_of _ _ _ c.in-Ok.keyword cut c.in-Ok.ensures.value.0 a)
+pub returns-in-within-clause-asks : goal.returns-in-within-clause-asks
+returns-in-within-clause-asks c asked = asks_first _ _ _ c.in-Some.first c.split_ascii_whitespace.ensures.text c.in-Some.ensures.steps keyword.Within refl c.in-within.is-within
 
-pub returns-in-Err-clause-asks_not : goal.returns-in-Err-clause-asks_not
-returns-in-Err-clause-asks_not c other a =
-    let cut : words c.args.line.now ≡ c.in-Some.first.now ∷ words (split_ascii_whitespace_text c.next.new.self) = ap words (sym c.split_ascii_whitespace.ensures.text) ∙ first_cut _ _ c.in-Some.first c.in-Some.ensures.steps in
-    let both : c.in-Some.first.now ∷ words (split_ascii_whitespace_text c.next.new.self) ≡ spelling a.keyword ∷ a.rest = sym cut ∙ a.spelt in
-    c.in-Err.ensures.value.0 a.keyword (cc)
+pub returns-in-within-2-clause-asks : goal.returns-in-within-2-clause-asks
+returns-in-within-2-clause-asks c asked = asks_first _ _ _ c.in-Some.first c.split_ascii_whitespace.ensures.text c.in-Some.ensures.steps keyword.InContext refl c.in-within.is-text
+
+pub returns-in-within-3-clause-asks : goal.returns-in-within-3-clause-asks
+returns-in-within-3-clause-asks c asked = asks_first _ _ _ c.in-Some.first c.split_ascii_whitespace.ensures.text c.in-Some.ensures.steps keyword.Expected refl c.in-within.is-expected
+
+pub returns-in-within-4-clause-asks : goal.returns-in-within-4-clause-asks
+returns-in-within-4-clause-asks c asked = asks_first _ _ _ c.in-Some.first c.split_ascii_whitespace.ensures.text c.in-Some.ensures.steps keyword.Recovery refl c.in-within.is-recovery
+
+pub returns-in-within-5-clause-asks : goal.returns-in-within-5-clause-asks
+returns-in-within-5-clause-asks c asked = asks_first _ _ _ c.in-Some.first c.split_ascii_whitespace.ensures.text c.in-Some.ensures.steps keyword.Tokens refl c.in-within.is-tokens
+
+pub returns-in-within-6-clause-asks : goal.returns-in-within-6-clause-asks
+returns-in-within-6-clause-asks c asked = asks_first _ _ _ c.in-Some.first c.split_ascii_whitespace.ensures.text c.in-Some.ensures.steps keyword.Leaf refl c.in-within.is-leaf
+
+pub returns-in-within-7-clause-asks : goal.returns-in-within-7-clause-asks
+returns-in-within-7-clause-asks c asked = asks_first _ _ _ c.in-Some.first c.split_ascii_whitespace.ensures.text c.in-Some.ensures.steps keyword.Picture refl c.in-within.is-picture
