@@ -39,19 +39,16 @@ fn answer_one<L: Lookahead>(
         → IfOk result (Answer (net_of (L.atn l.old)) shown.now (room lists.old.table) ask.now) }
     ensures room { OnOk result (room lists.new.table ≡ room_after ask.now (room lists.old.table)) }
 {
-    match ask {
-        Ask::Within { state } => Ok(Reply::Set(next_tokens(l, *state))),
-        Ask::InContext { state, chain } => {
-            Ok(Reply::Set(next_tokens_in_ctx(l, *state, chain.as_slice())))
-        }
-        Ask::Expected { state, chain } => {
-            Ok(Reply::Set(get_expected_tokens(l, *state, chain.as_slice())))
-        }
-        Ask::Recovery { chain } => Ok(Reply::Set(get_error_recovery_set(l, chain.as_slice()))),
-        Ask::Tokens => Ok(Reply::Tokens(shown.to_vec(heap)?)),
-        Ask::Leaf(leaf) => Ok(Reply::Leaf(lists.add(heap, *leaf)?)),
-        Ask::Picture => Ok(Reply::Picture),
-    }
+    let set = match ask {
+        Ask::Within { state } => next_tokens(l, *state),
+        Ask::InContext { state, chain } => next_tokens_in_ctx(l, *state, chain.as_slice()),
+        Ask::Expected { state, chain } => get_expected_tokens(l, *state, chain.as_slice()),
+        Ask::Recovery { chain } => get_error_recovery_set(l, chain.as_slice()),
+        Ask::Tokens => return Ok(Reply::Tokens(shown.to_vec(heap)?)),
+        Ask::Leaf(leaf) => return Ok(Reply::Leaf(lists.add(heap, *leaf)?)),
+        Ask::Picture => return Ok(Reply::Picture),
+    };
+    Ok(Reply::Set(set))
 }
 
 fn answer_each<L: Lookahead>(

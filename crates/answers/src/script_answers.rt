@@ -1,7 +1,9 @@
 //! What is printed for a script.
-ghost use Rattle.std.specs.Prelude.{IfOk};
+ghost use Rattle.std.specs.Prelude.{◌≡◌, IfOk};
+ghost use Rattle.std.specs.List.{list_any};
 ghost use Rattle.atn.specs.Checked.{net_of};
 ghost use Rattle.answers.specs.Answers.{AllAnswered, AllReplied, Replied, RestAnswered};
+ghost use Rattle.answers.specs.Leaves.{adds_leaf, needed_places};
 ghost use Rattle.answers.specs.NetAnswers.{checked_net};
 ghost use Rattle.script.specs.Contents.{content};
 
@@ -16,7 +18,7 @@ use interval_set::IntervalSet;
 use leaves::LINE_LENGTH;
 use reports::Counter;
 use script::Script;
-use script_lines::Question;
+use script_lines::{Ask, Question};
 use std::alloc::{AllocError, Global};
 use std::fmt;
 use token::TokenFields;
@@ -94,8 +96,26 @@ fn answer_questions(
     Ok(Some(answer_where(heap, atn, script, shown)?))
 }
 
+// Whether one of the questions adds a leaf.
+fn any_adds_leaf(questions: &[Question]) -> bool
+    ensures { result ≡ list_any (λ q. adds_leaf q.ask) questions.now }
+{
+    questions.iter().any(|q| matches!(q.ask, Ask::Leaf(_)))
+}
+
+// How many leaves the leaf lists are to have room for: none where no question adds one.
+fn needed_places(script: &Script) -> usize
+    ensures { result ≡ needed_places (content script.now) }
+{
+    if any_adds_leaf(script.questions()) {
+        script.leaf_places()
+    } else {
+        0
+    }
+}
+
 // What the questions are answered where that is shown, with leaf lists that have the room that the script
-// says.
+// says, as far as it is needed.
 fn answer_where(
     heap: Global,
     atn: &Atn,
@@ -105,8 +125,9 @@ fn answer_where(
     ensures { IfOk result (AllReplied (net_of atn.now) shown.now (content script.now)) }
 {
     let places = script.leaf_places();
-    let mut leaves = vec![in heap; no_leaf(); places]?;
-    let mut text = vec![in heap; 0u8; places * LINE_LENGTH]?;
+    let needed = needed_places(script);
+    let mut leaves = vec![in heap; no_leaf(); needed]?;
+    let mut text = vec![in heap; 0u8; needed * LINE_LENGTH]?;
     let mut lists = LeafLists::new(leaves.as_mut_slice(), text.as_mut_slice());
     let replies = answer_all(
         heap,
@@ -116,7 +137,7 @@ fn answer_where(
         shown,
         script.questions(),
     )?;
-    let free = lists.free();
+    let free = lists.free() + (places - needed);
     Ok(Replies {
         replies,
         added: places.saturating_sub(free),

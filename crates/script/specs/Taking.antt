@@ -3,10 +3,13 @@ use Rattle.std.specs.Prelude.{◌≡◌, ◌<◌, ◌⊎◌, ℕ, ◌+◌, true,
 use Rattle.script_lines.specs.declared.directives.Directive.{Directive}
 use Rattle.script_lines.specs.declared.directives.Directive.TheVariants.{Net, Counts as GivenCounts, Rule, State, Edge, Interval as GivenInterval, Word, Lane, Leaves, Summary, Lookahead, Show as GivenShow, Asked}
 use Rattle.script_lines.specs.declared.faults.LineFault.{LineFault}
+use Rattle.script_lines.specs.declared.faults.LineFault.TheVariants.{Call, Memory as OutOfMemory}
+use Rattle.script_lines.specs.declared.keywords.Keyword.{Keyword}
 use Rattle.script_lines.specs.Directives.{LineRead}
-use Rattle.script_lines.specs.Words.{words}
+use Rattle.script_lines.specs.Questions.{asks}
+use Rattle.script_lines.specs.Words.{spelling, words}
 use Rattle.script.specs.declared.faults.Fault.{Fault}
-use Rattle.script.specs.declared.faults.Fault.TheVariants.{Line, OtherKind, TooLate}
+use Rattle.script.specs.declared.faults.Fault.TheVariants.{Line, Memory, OtherKind, TooLate}
 use Rattle.script.specs.Contents.{Content, nothing_said}
 use Rattle.script.specs.Rows.{pushed, RefusedAt}
 
@@ -58,18 +61,44 @@ pub record Taken (d : Directive) (k : Content) (r : Result (Unit {0}) Fault) (k'
   pub late : IsLate d k → (r ≡ Err TooLate) × (k' ≡ k)
   pub in_time : (IsLate d k → ⊥) → Applied d k r k'
 
--- what is done with what a line was read as: nothing, where it says nothing; a line that says no directive is refused for
--- that, or for coming after a question, and nothing changes
-abbrev pub Done : Result (Option Directive) LineFault → Content → Result (Unit {0}) Fault → Content → Type 0
-Done (Ok None) k r k' = (r ≡ Ok tt) × (k' ≡ k)
-Done (Ok (Some d)) k r k' = Taken d k r k'
-Done (Err f) k r k' = ((r ≡ Err (Line f)) ⊎ ((r ≡ Err TooLate) × (0 < length k.questions))) × (k' ≡ k)
+-- The first word is that of a question.
+pub record AsksFirst (ws : List (List ℕ)) : Type 0 where
+  pub keyword : Keyword
+  pub rest : List (List ℕ)
+  pub spelt : ws ≡ spelling keyword ∷ rest
+  pub asks : asks keyword ≡ true
+
+-- what is wrong with a line that is none by itself
+abbrev pub own_fault : LineFault → Fault
+own_fault OutOfMemory = Memory
+own_fault f = Line f
+
+-- and what after a question, if the line is none: it comes too late, but a call of the parser is told of
+abbrev pub late_fault : LineFault → Fault
+late_fault OutOfMemory = Memory
+late_fault Call = Line Call
+late_fault f = TooLate
+
+-- The line says no directive for the fault f, and is refused for that, or for coming after a question: a question always for
+-- that, and any other line after one for coming too late.
+pub record Refused (ws : List (List ℕ)) (f : LineFault) (k : Content) (g : Fault) : Type 0 where
+  pub fault : (g ≡ own_fault f) ⊎ ((g ≡ TooLate) × (0 < length k.questions))
+  pub asked : AsksFirst ws → g ≡ own_fault f
+  pub late : 0 < length k.questions → (AsksFirst ws → ⊥) → g ≡ late_fault f
+
+-- what is done with what the words of a line were read as: nothing, where they say nothing; a line that says no directive is
+-- refused, and nothing changes
+abbrev pub Done : List (List ℕ) → Result (Option Directive) LineFault → Content → Result (Unit {0}) Fault → Content → Type 0
+Done ws (Ok None) k r k' = (r ≡ Ok tt) × (k' ≡ k)
+Done ws (Ok (Some d)) k r k' = Taken d k r k'
+Done ws (Err f) k (Ok u) k' = ⊥
+Done ws (Err f) k (Err g) k' = Refused ws f k g × (k' ≡ k)
 
 -- A line of text, read and taken in.
 pub record LineTaken (line : List ℕ) (k : Content) (r : Result (Unit {0}) Fault) (k' : Content) : Type 0 where
   pub said : Result (Option Directive) LineFault
   pub read : LineRead (words line) said
-  pub done : Done said k r k'
+  pub done : Done (words line) said k r k'
 
 -- The lines, taken one after the other into an empty script, give one that says k.
 pub data Reads : List (List ℕ) → Content → Type 0 where

@@ -4,7 +4,7 @@ ghost use Rattle.script.specs.declared.faults.Fault.TheVariants.{Memory};
 
 use crate::scripts::MAX_ROWS;
 use script_lines::LineFault;
-use std::alloc::AllocFailed;
+use std::alloc::{AllocError, AllocFailed};
 use std::error::Error;
 use std::fmt;
 
@@ -29,6 +29,14 @@ impl<T: Drop> From<AllocFailed<T>> for Fault {
     ghost from_gives = { λ _ r. r ≡ Memory };
 
     fn from(_refused: AllocFailed<T>) -> Fault {
+        Fault::Memory
+    }
+}
+
+impl From<AllocError> for Fault {
+    ghost from_gives = { λ _ r. r ≡ Memory };
+
+    fn from(_error: AllocError) -> Fault {
         Fault::Memory
     }
 }

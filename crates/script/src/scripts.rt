@@ -2,14 +2,17 @@
 ghost use Rattle.std.specs.Prelude.{◌≡◌, ◌+◌, ◌≤◌, ◌≢◌, ◌⊎◌, None, true, false, is_some, IfOk, IfErr, MatchOption};
 ghost use Rattle.std.specs.Str.Lines.{lines};
 ghost use Rattle.script.specs.Contents.{content, nothing_said, leaf_places, row_counts, ItsTables};
-ghost use Rattle.script.specs.Taking.{Applied, LineTaken, Reads, Taken, newlines};
-ghost use Rattle.script.specs.declared.faults.Fault.TheVariants.{Line, NoNet, TooLate};
+ghost use Rattle.script.specs.Taking.{Applied, AsksFirst, LineTaken, Reads, Taken, late_fault, newlines, own_fault};
+ghost use Rattle.script_lines.specs.Words.{words};
+ghost use Rattle.script.specs.declared.faults.Fault.TheVariants.{NoNet, TooLate};
 
 use crate::faults::{Fault, ScriptError};
 use crate::rows::Rows;
 use atn_graph::{Counts, EdgeRow, RuleRow, StateRow, Tables};
 use interval_set::Interval;
-use script_lines::{Directive, LaneRow, LineFault, LookaheadKind, Question, Show, WordRow};
+use script_lines::{
+    Directive, LaneRow, LineFault, LookaheadKind, Question, Show, WordRow,
+};
 use std::alloc::Global;
 
 /// The most rows that a table may have, and the most leaves that may have room.
@@ -63,8 +66,8 @@ impl Script {
         Ok(script)
     }
 
-    // A script that says nothing yet.
-    fn new(heap: Global) -> Script
+    /// A script that says nothing yet.
+    pub fn new(heap: Global) -> Script
         ensures { content result ≡ nothing_said }
     {
         Script {
@@ -84,9 +87,9 @@ impl Script {
         }
     }
 
-    // Takes a line in. A row or an option comes before the first question, and a refused line alters
-    // nothing.
-    fn take(&mut self, directive: Directive) -> Result<(), Fault>
+    /// Takes a line in. A row or an option comes before the first question, and a refused line alters
+    /// nothing.
+    pub fn take(&mut self, directive: Directive) -> Result<(), Fault>
         ensures taken { Taken directive (content self.old) result (content self.new) }
         ensures not_the_net { IfErr result (λ f. f ≢ NoNet) }
     {
@@ -97,8 +100,8 @@ impl Script {
         }
     }
 
-    // Takes a row or an option in.
-    fn apply(&mut self, directive: Directive) -> Result<(), Fault>
+    /// Takes a line in, also a row or an option after a question. A refused line alters nothing.
+    pub fn apply(&mut self, directive: Directive) -> Result<(), Fault>
         ensures applied { Applied directive (content self.old) result (content self.new) }
         ensures not_the_net { IfErr result (λ f. f ≢ NoNet) }
     {
@@ -210,18 +213,36 @@ fn take_line(heap: Global, script: &mut Script, line: &str) -> Result<(), Fault>
     match Directive::read(heap, line) {
         Ok(Some(directive)) => script.take(directive),
         Ok(None) => Ok(()),
-        Err(fault) => Err(fault_of_line(fault, script.questions.is_empty())),
+        Err(fault) => Err(fault_of_line(fault, line, script.questions.is_empty())),
     }
 }
 
 // What is wrong with a line that is none by itself.
-fn fault_of_line(fault: LineFault, rows_may_come: bool) -> Fault
-    ensures fault { (result ≡ Line fault) ⊎ ((result ≡ TooLate) × (rows_may_come ≡ false)) }
+fn fault_of_line(fault: LineFault, line: &str, rows_may_come: bool) -> Fault
+    ensures fault { (result ≡ own_fault fault) ⊎ ((result ≡ TooLate) × (rows_may_come ≡ false)) }
+    ensures asked { AsksFirst (words line.now) → result ≡ own_fault fault }
+    ensures late { rows_may_come ≡ false → (AsksFirst (words line.now) → ⊥)
+        → result ≡ late_fault fault }
     ensures not_the_net { result ≢ NoNet }
 {
     match fault {
-        LineFault::UnknownWord if !rows_may_come => Fault::TooLate,
-        LineFault::WrongForm(keyword) if !rows_may_come && !keyword.asks() => Fault::TooLate,
-        _ => Fault::Line(fault),
+        LineFault::Memory => Fault::Memory,
+        LineFault::Call => Fault::Line(fault),
+        _ if rows_may_come || asks(line) => Fault::Line(fault),
+        _ => Fault::TooLate,
     }
+}
+
+// Whether the line's first word is that of a question.
+fn asks(line: &str) -> bool
+    ensures asks { result ≡ true → AsksFirst (words line.now) }
+    ensures asks_not { result ≡ false → AsksFirst (words line.now) → ⊥ }
+{
+    let Some(first) = line.split_ascii_whitespace().next() else {
+        return false;
+    };
+    matches!(
+        first,
+        "within" | "in-context" | "expected" | "recovery" | "tokens" | "leaf" | "picture"
+    )
 }

@@ -131,7 +131,7 @@ const NO_NET: [(&str, &str); 3] = [
     ),
 ];
 
-const NO_QUESTION: [(&str, &str); 11] = [
+const NO_QUESTION: [(&str, &str); 13] = [
     ("net 1\nwithin", "line 2: expected within S, one number"),
     ("net 1\nwithin 1 2", "line 2: expected within S, one number"),
     (
@@ -164,6 +164,15 @@ const NO_QUESTION: [(&str, &str); 11] = [
         "line 2: expected show all or channel0",
     ),
     ("net 1\ntokens 1", "line 2: expected tokens, no number"),
+    // a question comes in time, whatever is wrong with it
+    (
+        "net 1\nwithin 0\nrecovery 1 99999999999999999999",
+        "line 3: expected numbers of 64 bits, from -9223372036854775808 to 9223372036854775807",
+    ),
+    (
+        "net 1\nwithin 0\nwithin x",
+        "line 3: expected within S, one number",
+    ),
 ];
 
 const LEAF: &str =
@@ -204,7 +213,7 @@ const OTHER_KIND: [(&str, &str); 2] = [
     ),
 ];
 
-const TOO_LATE: [(&str, &str); 8] = [
+const TOO_LATE: [(&str, &str); 11] = [
     (
         "net 1\nwithin 0\nrule 1",
         "line 3: expected within, in-context, expected, recovery, tokens, leaf or picture: rows and options come before questions",
@@ -235,6 +244,18 @@ const TOO_LATE: [(&str, &str); 8] = [
     ),
     (
         "net 1\nwithin 0\nshow all",
+        "line 3: expected within, in-context, expected, recovery, tokens, leaf or picture: rows and options come before questions",
+    ),
+    (
+        "net 1\nwithin 0\nrule 1 99999999999999999999",
+        "line 3: expected within, in-context, expected, recovery, tokens, leaf or picture: rows and options come before questions",
+    ),
+    (
+        "net 1\nwithin 0\nleaves -9223372036854775809",
+        "line 3: expected within, in-context, expected, recovery, tokens, leaf or picture: rows and options come before questions",
+    ),
+    (
+        "net 1\nwithin 0\nlookahead 99999999999999999999",
         "line 3: expected within, in-context, expected, recovery, tokens, leaf or picture: rows and options come before questions",
     ),
 ];
