@@ -8,7 +8,7 @@ use Rattle.atn_graph.specs.Net.{Net, net, size, Of, state_at, edge_at}
 use Rattle.atn_graph.proofs.Inside.{target_inside, follow_inside}
 use Rattle.atn.proofs.Some.{edge_state}
 use Rattle.atn.specs.Among.{Among}
-use Rattle.atn.specs.Reach.{StepOver, LeadsByOver, LeadsOver}
+use Rattle.atn.specs.Reach.{StepOver, ReachesOver, LeadsByOver, LeadsOver}
 
 -- one of the edges from number low up to number high leads to k
 abbrev pub LeadsAmongOver : (ℕ → Type 0) → Net → ℕ → ℕ → ℕ → Type 0
@@ -37,3 +37,8 @@ pub step_inside : (N : ℕ → Type 0) (g : Graph) (s k : ℕ) → StepOver N (n
 step_inside N g s k (StepOver.along e) = subst (λ x. x < size (net g.lists)) e.leads (target_inside g s e.number (edge_state (net g.lists) s e.number e.of) e.of)
 step_inside N g s k (StepOver.into e) = subst (λ x. x < size (net g.lists)) e.leads (target_inside g s e.number (edge_state (net g.lists) s e.number e.of) e.of)
 step_inside N g s k (StepOver.over e u) = follow_inside g s e.number (edge_state (net g.lists) s e.number e.of) e.of k e.moves
+
+-- what a state of the net reaches is a state of the net
+pub reaches_inside : (N : ℕ → Type 0) (g : Graph) {s k : ℕ} → s < size (net g.lists) → ReachesOver N (net g.lists) s k → k < size (net g.lists)
+reaches_inside N g l ReachesOver.here = l
+reaches_inside N g l (ReachesOver.more {s} {t} e r) = reaches_inside N g {s = t} (step_inside N g s t e) r

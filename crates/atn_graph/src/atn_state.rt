@@ -1,6 +1,6 @@
 //! States and their kinds.
-ghost use Rattle.std.specs.Prelude.{◌≡◌};
-ghost use Rattle.atn_graph.specs.Kinds.{KindNumbered, is_start, is_stop};
+ghost use Rattle.std.specs.Prelude.{◌≡◌, pos};
+ghost use Rattle.atn_graph.specs.Kinds.{KindNumbered, state_kind_number, is_start, is_stop};
 
 use errors::Denial;
 
@@ -22,6 +22,13 @@ pub enum StateKind {
 }
 
 impl StateKind {
+    /// Its number in ANTLR's serialized networks.
+    pub fn number(self) -> i32
+        ensures { result ≡ pos (state_kind_number self) }
+    {
+        self as i32
+    }
+
     /// Whether it is the kind of a rule's start state.
     pub fn is_start(self) -> bool
         ensures { result ≡ is_start self }

@@ -1,5 +1,5 @@
 //! The graph of a net, whose tables are checked up to left recursion.
-ghost use Rattle.std.specs.Prelude.{◌≡◌, ⊤, false, IfOk};
+ghost use Rattle.std.specs.Prelude.{◌≡◌, ◌≤◌, ⊤, false, IfOk, length, slice_range};
 ghost use Rattle.errors.specs.Denials.{DeniesFirst};
 ghost use Rattle.atn_graph.specs.Faults.{TableFault};
 ghost use Rattle.atn_graph.specs.Kinds.{is_stop};
@@ -24,6 +24,15 @@ pub struct Graph {
     ghost limits: { beyond_limits (net lists) ≡ false },
     ghost runs: { ∥ Runs (net lists) ∥₁ },
     ghost sound: { ∥ IsSoundNet (net lists) ∥₁ },
+}
+
+// The edges numbered from first up to end, end excluded.
+fn run(edges: &[Transition], first: usize, end: usize) -> &[Transition]
+    requires rises { first ≤ end }
+    requires ends { end ≤ length edges.now }
+    ensures { result.now ≡ slice_range edges.now first end }
+{
+    &edges[first..end]
 }
 
 impl Graph {
@@ -62,7 +71,7 @@ impl Graph {
         ensures { result.now ≡ edges_of (net self.now.lists) s }
     {
         match self.lists.states.get(s) {
-            Some(state) => &self.lists.edges[state.first..state.end],
+            Some(state) => run(&self.lists.edges, state.first, state.end),
             None => &[],
         }
     }

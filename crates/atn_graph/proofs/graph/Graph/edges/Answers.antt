@@ -15,14 +15,5 @@ within c =
     let end = ap (λ x. x.end) e in
     (omega (arith, first, end, (runs_of g c.args.s l).1), omega (arith, end, end_inside g c.args.s l))
 
-pub offset_bounds-deref-state : goal.offset_bounds-deref-state
-offset_bounds-deref-state c = let w = within c in search rules
-
-pub slice_bounds-result-count : goal.slice_bounds-result-count
-slice_bounds-result-count c = (within c).0
-
-pub slice_bounds-result-start : goal.slice_bounds-result-start
-slice_bounds-result-start c = let w = within c in search rules
-
-pub slice_bounds-result-end : goal.slice_bounds-result-end
-slice_bounds-result-end c = let w = within c in search rules
+pub run-requires : goal.run-requires
+run-requires c = let w = within c in search rules
