@@ -1,4 +1,5 @@
--- Words stand for one list of numbers, so what is not formed of it is not formed of them.
+-- Words stand for one list of numbers, so what is not formed of it is not formed of them; and what the fault of words that
+-- are refused says of them.
 use Rattle.std.proofs.Common.{◌≡◌, ◌≢◌, ◌∙◌, ◌⊎◌, ℕ, suc, List, [], ◌∷◌, ◌++◌, ℤ, pos, arith, get_or, length, Some, None, Ok, Err, ap, inl, inr, refl, sym, subst}
 use Rattle.std.specs.Prelude.{slice_index}
 use Rattle.std.specs.List.{Any}

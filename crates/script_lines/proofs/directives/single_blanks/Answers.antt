@@ -11,7 +11,10 @@ pub loop-word-preserved : goal.loop-word-preserved
 loop-word-preserved c =
     let text = string_bytes c.loop-word.text in
     let before = string_bytes c.if-not-is_empty.text in
-    let blank : ((0 < length text) × (before ≡ text ++ codes " ")) ⊎ ((length text ≡ 0) × (before ≡ text)) = elim c.if-not-is_empty.branch [ then-not-is_empty+in_ok-push_str w ↦ inl (grind (arith, nat_tests, w.if-not-is_empty.ensures), ap string_bytes w.text-is ∙ w.in_ok-push_str.ensures.bytes) | else-not-is_empty w ↦ inr (grind (arith, nat_tests, w.if-not-is_empty.ensures), ap string_bytes w.text-is) ] in
+    let blank : ((0 < length text) × (before ≡ text ++ codes " ")) ⊎ ((length text ≡ 0) × (before ≡ text)) = elim c.if-not-is_empty.branch [
+      | then-not-is_empty+in_ok-push_str w ↦ inl (grind (arith, nat_tests, w.if-not-is_empty.ensures), ap string_bytes w.text-is ∙ w.in_ok-push_str.ensures.bytes)
+      | else-not-is_empty w ↦ inr (grind (arith, nat_tests, w.if-not-is_empty.ensures), ap string_bytes w.text-is)
+    ] in
     let pushed : string_bytes c.push_str-in-loop-word.new.self ≡ before ++ c.in-Some.word.now = search rules in
     record {
       cut = cut_more _ c.loop-word.yielded c.in-Some.word c.loop-word.word-iterator c.next.new.self c.loop-word.invariant.cut c.in-Some.ensures.steps;
