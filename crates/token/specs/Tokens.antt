@@ -31,6 +31,10 @@ abbrev pub is_eof : TokenType → Bool
 is_eof Eof = true
 is_eof (Of n) = false
 
+-- the largest line, and the largest column, of a token of a tape
+abbrev pub max_position : ℕ
+max_position = 1000000
+
 -- the token index of a token of a tape
 abbrev pub token_index : Fields → ℕ
 token_index f = unwrap_or f.index 0
