@@ -1,12 +1,9 @@
 -- The last line of a writer is that of the leaf that was added last.
-use Rattle.std.proofs.Common.{◌≡◌, ◌∙◌, ℕ, ◌+◌, ◌-◌, ◌<◌, ◌≤◌, List, [], ◌∷◌, ◌++◌, length, drop, get_or, All, Ok, Err, Result, is_ok, inl, inr, refl, ap, sym, subst, arith}
+use Rattle.std.proofs.Common.{◌≡◌, ◌∙◌, ℕ, ◌+◌, ◌-◌, ◌≤◌, List, [], ◌∷◌, ◌++◌, length, drop, get_or, All, refl, ap, subst, arith}
 use Rattle.std.specs.List.{flat_map}
-use Rattle.std.proofs.lemmas.Bool.{cases_lt, false≢true}
 use Rattle.std.proofs.lemmas.List.{length-append, length_push, get_or_push, append-nil, drop_at}
 use Rattle.std.proofs.lemmas.Grind.{flat_map-append}
 use Rattle.leaves.specs.declared.leaf_writer.LeafWriter.{LeafWriter}
-use Rattle.errors.specs.declared.denial.Denial.{Denial}
-use Rattle.errors.specs.declared.denial.Denial.TheVariants.{NoLeafFree}
 use Rattle.leaves.specs.Leaves.{LeafFields, LeafFits}
 use Rattle.leaves.specs.LeafLines.{leaf_line}
 use Rattle.leaves.specs.Lengths.{length_line}
@@ -38,7 +35,3 @@ module _ (w : LeafWriter) (old : List LeafFields) (l : LeafFields) (is : leaves_
   last_line =
       let before : length text - 57 ≡ length (flat_map leaf_line old) = omega (arith, long) in
       ap (λ k. drop k text) before ∙ ap (drop (length (flat_map leaf_line old))) split ∙ drop_at (flat_map leaf_line old) (leaf_line l) (length (flat_map leaf_line old)) refl
-
--- what is taken had a free place
-pub some_free : {X : Type 0} (n : ℕ) (r : Result (Unit {0}) Denial) (u : Unit {0}) → r ≡ Ok u → (n ≡ 0 → (r ≡ Err NoLeafFree) × X) → 0 < n
-some_free n r u ok full = elim (cases_lt 0 n) [ inl l ↦ l | inr z ↦ absurd (false≢true (sym (ap is_ok (full (omega (arith, z))).0) ∙ ap is_ok ok)) ]

@@ -1,5 +1,5 @@
 //! The two leaf lists of a script.
-ghost use Rattle.std.specs.Prelude.{◌≡◌, ◌-◌, ◌/◌, IfOk, OnOk, length, min};
+ghost use Rattle.std.specs.Prelude.{◌≡◌, ◌-◌, ◌/◌, IfOk, OnErr, OnOk, length, min};
 ghost use Rattle.fixed_vec.specs.Lists.{spare};
 ghost use Rattle.leaves.specs.Writers.{unwritten};
 ghost use Rattle.answers.specs.Leaves.{LeafAnswer, room};
@@ -48,10 +48,12 @@ impl<'a> LeafLists<'a> {
         self.table.free()
     }
 
-    /// Adds the leaf to both, unless there is no room.
+    /// Adds the leaf to both, unless there is no room. Where memory runs out, neither has it.
     pub fn add(&mut self, heap: Global, leaf: Leaf) -> Result<Result<AddedLeaf, Denial>, AllocError>
         ensures answer { IfOk result (LeafAnswer (room self.old.table) leaf) }
         ensures one_fewer { OnOk result (room self.new.table ≡ room self.old.table - 1) }
+        ensures unchanged { OnErr result
+            ((self.new.table ≡ self.old.table) × (self.new.writer ≡ self.old.writer)) }
     {
         add_leaf(heap, &mut self.table, &mut self.writer, leaf)
     }
@@ -68,15 +70,17 @@ fn add_leaf(
     ensures equal { length (unwritten writer.new) / 57 ≡ room table.new }
     ensures answer { IfOk result (LeafAnswer (room table.old) leaf) }
     ensures one_fewer { OnOk result (room table.new ≡ room table.old - 1) }
+    ensures unchanged { OnErr result ((table.new ≡ table.old) × (writer.new ≡ writer.old)) }
 {
-    if let Err(denial) = table.add(leaf) {
-        return Ok(Err(denial));
+    if table.free() == 0 {
+        return Ok(Err(Denial::NoLeafFree));
     }
-    if let Err(denial) = writer.add(leaf) {
-        return Ok(Err(denial));
-    }
+    let mut line = vec![in heap; 0u8; LINE_LENGTH]?;
+    // both have room
+    let _ = table.add(leaf);
+    let _ = writer.add(leaf);
     let text = writer.as_bytes();
-    let line = text[text.len() - LINE_LENGTH..].to_vec(heap)?;
+    line.copy_from_slice(&text[text.len() - LINE_LENGTH..]);
     let last = table.as_slice()[table.len() - 1];
     Ok(Ok(AddedLeaf { leaf: last, line }))
 }

@@ -13,5 +13,5 @@ mod tape;
 pub use leaf_lists::{AddedLeaf, LeafLists};
 pub use net_answers::{NetAnswer, Verdict};
 pub use pictures::Picture;
-pub use replies::Reply;
+pub use replies::{Reply, answer_all};
 pub use script_answers::{Replies, ScriptAnswer};

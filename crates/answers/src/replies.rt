@@ -71,9 +71,9 @@ fn answer_each<L: Lookahead>(
     Ok(answers)
 }
 
-// What the questions are answered, by the lookahead of that kind and with these leaf lists, where `shown`
-// is shown. All kinds answer alike.
-pub(crate) fn answer_all(
+/// What the questions are answered, by the lookahead of that kind and with these leaf lists, where `shown`
+/// is shown. All kinds answer alike.
+pub fn answer_all(
     heap: Global,
     atn: &Atn,
     kind: LookaheadKind,

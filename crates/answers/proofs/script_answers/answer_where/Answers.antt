@@ -28,5 +28,5 @@ returns c =
     record {
       answered = all_answered k n shown rs (subst (λ x. EachAnswered n shown x k.questions rs) made (subst (λ qs. EachAnswered n shown (room c.new-lists.result.table) qs rs) c.questions.ensures c.in_ok-replies.ensures.answered));
       free = free;
-      added = omega (arith, free, c.saturating_sub.ensures, c.leaf_places-places.ensures);
+      added = omega (arith, free, c.leaf_places-places.ensures);
     }
