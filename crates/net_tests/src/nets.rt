@@ -1,6 +1,6 @@
 //! Nets that the tests use.
 use atn::Atn;
-use atn_graph::{Counts, EdgeRow, RuleRow, StateRow, Tables};
+use atn_graph::{Counts, EdgeRow, RuleRow, StateKind, StateRow, Tables, is_outside, is_short};
 use errors::Denial;
 use interval_set::Interval;
 use std::test::Fail;
@@ -125,4 +125,45 @@ fn longer_tables_are_accepted(rt: HostRuntime) {
         }),
         Ok(())
     );
+}
+
+#[test]
+fn a_clone_is_the_same_net(rt: HostRuntime) -> Result<(), Fail> {
+    let net = Atn::check(&Tables {
+        max_token_type: 1,
+        counts: counts(1, 2, 1, 0),
+        rules: &[rule(0, 1)],
+        states: &[state(0, 2, 1), state(0, 7, 0)],
+        edges: &[edge(5, 1, -1, 0)],
+        intervals: &[],
+    })?;
+    let twin = net.clone()?;
+    assert_eq!(rt; twin.max_token_type(), 1);
+    assert_eq!(rt; twin.rule(0).ok_or("no rule 0")?.stop, 1);
+    assert_eq!(rt; twin.state_count(), 2);
+    assert_eq!(rt; twin.edge(0).ok_or("no edge 0")?.target, 1);
+    assert_eq!(rt; twin.interval_count(), 0);
+    Ok(())
+}
+
+// A table can be too short and a count outside its limits at once.
+#[test]
+fn short_and_outside(rt: HostRuntime) {
+    let tables = Tables {
+        max_token_type: 256,
+        counts: counts(1, 2, 0, 0),
+        rules: &[],
+        states: &[],
+        edges: &[],
+        intervals: &[],
+    };
+    assert!(rt; is_short(&tables));
+    assert!(rt; is_outside(&tables));
+}
+
+#[test]
+fn kinds_have_their_numbers(rt: HostRuntime) -> Result<(), Fail> {
+    assert_eq!(rt; StateKind::BlockEnd.number(), 8);
+    assert_eq!(rt; StateKind::try_from(12)?.number(), 12);
+    Ok(())
 }
