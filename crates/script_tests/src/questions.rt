@@ -1,6 +1,8 @@
 //! Questions about the pass net, and what is printed for each.
-use answers::ScriptAnswer;
+use answers::{LeafLists, NetAnswer, Reply, ScriptAnswer, answer_all};
+use errors::Denial;
 use script::Script;
+use script_lines::LookaheadKind;
 use std::alloc::Global;
 use std::process::Abort;
 use std::test::*;
@@ -196,5 +198,29 @@ fn a_table_of_all_states(rt: HostRuntime) -> Result<(), Fail> {
         printed.as_str(),
         "net ok\nwithin 0: 2\nwithin 510: 2\nwithin 511: -2\nwithin 512: denied 8\n"
     );
+    Ok(())
+}
+
+// About a net at hand, with leaf lists that have no room.
+#[test]
+fn about_a_net(rt: HostRuntime) -> Result<(), Fail> {
+    let heap = rt.alloc();
+    let text = format!(in heap; "{PASS}within 8\nleaf 1 1 0 1 0 1 0\n")?;
+    let script = Script::parse(heap, text.as_str())?;
+    let answer = NetAnswer::of(&script).ok_or("no answer")?;
+    let net = answer.net().ok_or("a sound net was denied")?;
+    for kind in [
+        LookaheadKind::Walker,
+        LookaheadKind::Table,
+        LookaheadKind::Cache,
+    ] {
+        let mut lists = LeafLists::new(&mut [], &mut []);
+        let replies = answer_all(heap, net, kind, &mut lists, &[], script.questions())?;
+        let smallest = match replies.as_slice() {
+            [Reply::Set(Ok(set)), Reply::Leaf(Err(Denial::NoLeafFree))] => set.get_min(),
+            _ => None,
+        };
+        assert_eq!(rt; smallest, Some(2));
+    }
     Ok(())
 }

@@ -1,6 +1,8 @@
 //! Texts that are scripts, and what they say.
 use answers::NetAnswer;
-use script::Script;
+use atn_graph::RuleRow;
+use script::{Fault, Script};
+use script_lines::{Ask, Directive, Question};
 use std::alloc::Global;
 use std::test::*;
 
@@ -83,5 +85,26 @@ fn an_empty_net_is_denied(rt: HostRuntime) -> Result<(), Fail> {
     assert!(rt; script.wants_summary());
     let answer = NetAnswer::of(&script).ok_or("no answer")?;
     assert_eq!(rt; answer.to_string(heap)?.as_str(), "net denied 2\n");
+    Ok(())
+}
+
+// Line by line, without a text. What comes too late is refused, unless it is applied all the same.
+#[test]
+fn taken_one_by_one(rt: HostRuntime) -> Result<(), Fail> {
+    let heap = rt.alloc();
+    let mut script = Script::new(heap);
+    let rule = RuleRow { start: 1, stop: 2 };
+    assert_eq!(rt; script.take(Directive::Net { max: 3 }), Ok(()));
+    assert_eq!(rt; script.take(Directive::Rule(rule)), Ok(()));
+    let question = Question {
+        words: String::from_str(heap, "picture")?,
+        ask: Ask::Picture,
+    };
+    assert_eq!(rt; script.take(Directive::Asked(question)), Ok(()));
+    assert_eq!(rt; script.take(Directive::Rule(rule)), Err(Fault::TooLate));
+    assert_eq!(rt; script.apply(Directive::Rule(rule)), Ok(()));
+    assert_eq!(rt; script.questions().len(), 1);
+    let said = said(heap, &script)?;
+    assert_eq!(rt; said.as_str(), "3 counts 2 0 0 0 rule 1 2 rule 1 2");
     Ok(())
 }
