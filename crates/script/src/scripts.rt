@@ -10,9 +10,7 @@ use crate::faults::{Fault, ScriptError};
 use crate::rows::Rows;
 use atn_graph::{Counts, EdgeRow, RuleRow, StateRow, Tables};
 use interval_set::Interval;
-use script_lines::{
-    Directive, LaneRow, LineFault, LookaheadKind, Question, Show, WordRow,
-};
+use script_lines::{Directive, LaneRow, LineFault, LookaheadKind, Question, Show, WordRow};
 use std::alloc::Global;
 
 /// The most rows that a table may have, and the most leaves that may have room.
