@@ -2,3 +2,4 @@ pub mod LeafRows
 pub mod LinesRead
 pub mod Words
 pub mod Zipped
+mod Digits

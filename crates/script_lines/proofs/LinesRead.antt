@@ -46,7 +46,7 @@ pub numbers_names : (k : Keyword) (ws : List (List ℕ)) (f : LineFault) → Num
 numbers_names k ws f (inl memory) = subst (NamesWord (spelling k) ws) (sym memory) (k, refl)
 numbers_names k ws f (inr some) = elim some.4.1 [
   | inl wrong ↦ subst (NamesWord (spelling k) ws) (sym wrong.0) (refl, λ call. none_stand ws (one_none ws some) call.numbers call.stand)
-  | inr large ↦ subst (NamesWord (spelling k) ws) (sym large) (k, refl, one_none ws some)
+  | inr large ↦ subst (NamesWord (spelling k) ws) (sym large.0) (k, refl, (some.0, some.1, some.2, some.3, (large.1, λ fits. some.4.0 (large.1, fits))))
 ]
 
 pub no_numbers : (wrong : LineFault) (ws : List (List ℕ)) (f : LineFault) → NumbersRead wrong ws (Err f) → (f ≡ Memory) ⊎ ((ns : List ℤ) → StandFor ws ns → ⊥)

@@ -10,7 +10,7 @@ use Rattle.script_lines.specs.declared.keywords.Keyword.{Keyword}
 use Rattle.script_lines.specs.declared.keywords.Keyword.TheVariants as keyword
 use Rattle.script_lines.specs.declared.questions.Ask.{Ask}
 use Rattle.script_lines.specs.declared.questions.Question.{Question}
-use Rattle.script_lines.specs.Numbers.{OneIsNone, StandFor}
+use Rattle.script_lines.specs.Numbers.{OneIsTooLarge, StandFor}
 use Rattle.script_lines.specs.Questions.{ask_word, IsAskedWith}
 use Rattle.script_lines.specs.Words.{IsCallWord, IsSpelt, SaysNothing, in_one, lookahead_spelling, show_spelling, spelling}
 
@@ -123,7 +123,7 @@ abbrev pub NamesWord : List ℕ → List (List ℕ) → LineFault → Type 0
 NamesWord w ws UnknownWord = IsSpelt spelling w None × (IsCallWord w → ⊥)
 NamesWord w ws Call = IsCallWord w ⊎ ((k : Keyword) × (w ≡ spelling k) × IsCallOf k ws)
 NamesWord w ws (WrongForm k) = (w ≡ spelling k) × (IsCallOf k ws → ⊥)
-NamesWord w ws TooLarge = (k : Keyword) × (w ≡ spelling k) × OneIsNone ws
+NamesWord w ws TooLarge = (k : Keyword) × (w ≡ spelling k) × OneIsTooLarge ws
 NamesWord w ws Memory = (k : Keyword) × (w ≡ spelling k)
 
 -- The words are read as a directive that they say. They are refused only if they say none, or if memory runs out.

@@ -31,14 +31,21 @@ StandsFor w None = IsNumber w → ⊥
 abbrev pub StandFor : List (List ℕ) → List ℤ → Type 0
 StandFor = AllZip (λ w n. StandsFor w (Some n))
 
+-- the word is decimal digits, perhaps after a sign, and the number does not fit 64 bits with a sign
+abbrev pub IsTooLarge : List ℕ → Type 0
+IsTooLarge w = IsNumeral 10 (without_leading_sign w) × (FitsSigned w64 (signed_digits_value 10 w) → ⊥)
+
 -- one of the words is no number
 abbrev pub OneIsNone : List (List ℕ) → Type 0
 OneIsNone = Any (λ w. StandsFor w None)
 
--- The fault of a word that is no number. Digits alone, perhaps after a sign, are too large; what is no numeral is wrong,
--- or too large by the digits that it begins with.
+-- one of the words is a number that is too large
+abbrev pub OneIsTooLarge : List (List ℕ) → Type 0
+OneIsTooLarge = Any IsTooLarge
+
+-- The fault of a word that is no number. Digits alone, perhaps after a sign, are too large, and anything else is wrong.
 abbrev pub WhyNone : LineFault → List ℕ → LineFault → Type 0
-WhyNone wrong w f = ((f ≡ wrong) × (IsNumeral 10 (without_leading_sign w) → ⊥)) ⊎ (f ≡ TooLarge)
+WhyNone wrong w f = ((f ≡ wrong) × (IsNumeral 10 (without_leading_sign w) → ⊥)) ⊎ ((f ≡ TooLarge) × IsNumeral 10 (without_leading_sign w))
 
 -- The words are read as the numbers that they stand for. They are refused only if one stands for none, or if memory runs
 -- out; then with a fault of its own.

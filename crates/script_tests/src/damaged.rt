@@ -286,6 +286,26 @@ fn words_that_are_no_numbers(rt: HostRuntime) -> Result<(), Fail> {
     refused(&rt, rt.alloc(), &NO_NUMBER)
 }
 
+// Digits that go on as something else are no number, however many they are.
+#[test]
+fn digits_that_go_on(rt: HostRuntime) -> Result<(), Fail> {
+    let cases = [
+        (
+            "net 1\nrule 1 99999999999999999999x\n",
+            "line 2: expected rule START STOP, two numbers",
+        ),
+        (
+            "net 1\nrule 1 99999999999999999999-\n",
+            "line 2: expected rule START STOP, two numbers",
+        ),
+        (
+            "net 1\nrule 1 -99999999999999999999\n",
+            "line 2: expected numbers of 64 bits, from -9223372036854775808 to 9223372036854775807",
+        ),
+    ];
+    refused(&rt, rt.alloc(), &cases)
+}
+
 #[test]
 fn unknown_words(rt: HostRuntime) -> Result<(), Fail> {
     refused(&rt, rt.alloc(), &UNKNOWN)
