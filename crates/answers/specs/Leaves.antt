@@ -21,6 +21,7 @@ abbrev pub LeafAnswer : ℕ → LeafFields → Result AddedLeaf Denial → Type 
 LeafAnswer free l (Ok a) = (0 < free) × (a.leaf ≡ l) × (a.line.items ≡ leaf_line l)
 LeafAnswer free l (Err d) = (free ≡ 0) × (d ≡ NoLeafFree)
 
+-- whether a question adds a leaf
 abbrev pub adds_leaf : Ask → Bool
 adds_leaf (Leaf l) = true
 adds_leaf a = false

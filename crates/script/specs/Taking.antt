@@ -68,12 +68,12 @@ pub record AsksFirst (ws : List (List ℕ)) : Type 0 where
   pub spelt : ws ≡ spelling keyword ∷ rest
   pub asks : asks keyword ≡ true
 
--- what is wrong with a line that is none by itself
+-- what a line that says no directive for a fault is refused for
 abbrev pub own_fault : LineFault → Fault
 own_fault OutOfMemory = Memory
 own_fault f = Line f
 
--- and what after a question, if the line is none: it comes too late, but a call of the parser is told of
+-- and what after a question, where the line asks nothing: that it comes too late, but for a call of the parser and lack of memory
 abbrev pub late_fault : LineFault → Fault
 late_fault OutOfMemory = Memory
 late_fault Call = Line Call

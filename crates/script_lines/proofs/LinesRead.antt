@@ -8,7 +8,7 @@ use Rattle.script_lines.specs.declared.faults.LineFault.{LineFault}
 use Rattle.script_lines.specs.declared.faults.LineFault.TheVariants.{Call, Memory, WrongForm}
 use Rattle.script_lines.specs.declared.keywords.Keyword.{Keyword}
 use Rattle.script_lines.specs.Directives.{Formed, IsNoQuestion, IsNoRow, LineRead, NamesWord, WordsRead, call_numbers, numbers_after}
-use Rattle.script_lines.specs.Numbers.{IsNumber, NumbersRead, OneIsNone, StandFor, StandsFor}
+use Rattle.script_lines.specs.Numbers.{IsNumber, NumbersRead, StandFor, StandsFor}
 use Rattle.script_lines.specs.Questions.{Forms, IsAskedWith}
 use Rattle.script_lines.specs.Words.{spelling}
 use Rattle.script_lines.proofs.Zipped.{zip_at}
@@ -27,6 +27,10 @@ any_at P [] w behind p = (0, w, omega arith, refl, p)
 any_at P (v ∷ before) w behind p = let a = any_at P before w behind p in (suc a.0, a.1, omega (arith, a.2), a.3, a.4)
 
 -- where one word is no number, the words stand for no list of numbers
+-- one of the words is no number
+abbrev OneIsNone : List (List ℕ) → Type 0
+OneIsNone = Any (λ w. StandsFor w None)
+
 pub none_stand : (ws : List (List ℕ)) → OneIsNone ws → (ns : List ℤ) → StandFor ws ns → ⊥
 none_stand ws none ns s =
     let at : StandsFor (get_or ws none.0 none.1) (Some (get_or ns none.0 (pos 0))) = zip_at (λ w n. StandsFor w (Some n)) ws ns none.0 none.1 (pos 0) s none.2 in

@@ -1,6 +1,6 @@
 -- The words of a line, as `split_ascii_whitespace` cuts them off it.
 use Rattle.std.proofs.Common.{◌≡◌, ◌∙◌, ◌⊎◌, ◌<◌, ◌≤◌, ◌++◌, [], ◌∷◌, ap, append_assoc, false, true, List, ℕ, Some, None, arith, get_or, inl, inr, length, refl, sym}
-use Rattle.std.specs.Prelude.{All, codes, cond, nat_lt}
+use Rattle.std.specs.Prelude.{All, codes, cond, map, nat_lt}
 use Rattle.std.specs.Borrow.{Bor}
 use Rattle.std.specs.Char.{is_ascii_whitespace}
 use Rattle.std.specs.Str.{NoCharPasses}
@@ -13,7 +13,11 @@ use Rattle.std.proofs.lemmas.List.Elements.{All-from_get_or, All-tail}
 use Rattle.std.proofs.lemmas.List.Splits.{slice_split_none, slice_split_at, slice_split-cons_yes}
 use Rattle.std.proofs.lemmas.Grind.{common_steps, flat_map-append}
 use Rattle.std.specs.List.{filter, flat_map, slice_split}
-use Rattle.script_lines.specs.Words.{in_one, texts, words, words_left}
+use Rattle.script_lines.specs.Words.{in_one, words, words_left}
+
+-- what borrowed words are
+abbrev pub texts : List (Bor (List ℕ)) → List (List ℕ)
+texts = map (λ w. w.now)
 
 -- a byte past ASCII is no white space
 not_white : (b : ℕ) → 128 ≤ b → is_ascii_whitespace b ≡ false

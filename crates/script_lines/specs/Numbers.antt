@@ -35,10 +35,6 @@ StandFor = AllZip (λ w n. StandsFor w (Some n))
 abbrev pub IsTooLarge : List ℕ → Type 0
 IsTooLarge w = IsNumeral 10 (without_leading_sign w) × (FitsSigned w64 (signed_digits_value 10 w) → ⊥)
 
--- one of the words is no number
-abbrev pub OneIsNone : List (List ℕ) → Type 0
-OneIsNone = Any (λ w. StandsFor w None)
-
 -- one of the words is a number that is too large
 abbrev pub OneIsTooLarge : List (List ℕ) → Type 0
 OneIsTooLarge = Any IsTooLarge

@@ -1,6 +1,5 @@
 -- The words of a line, and what each is the spelling of.
-use Rattle.std.specs.Prelude.{◌≡◌, ◌≢◌, ◌⊎◌, ℕ, List, [], ◌∷◌, length, map, nat_lt, Some, None, Option, Result, IfErr, codes, slice_index}
-use Rattle.std.specs.Borrow.{Bor}
+use Rattle.std.specs.Prelude.{◌≡◌, ◌≢◌, ◌⊎◌, ℕ, List, [], ◌∷◌, length, nat_lt, Some, None, Option, Result, IfErr, codes, slice_index}
 use Rattle.std.specs.Char.{is_ascii_whitespace}
 use Rattle.std.specs.List.{filter, join_by, slice_split}
 use Rattle.std.specs.Result.{result_ok}
@@ -24,10 +23,6 @@ words_left s = words (split_ascii_whitespace_text s)
 -- the words with one blank between two
 abbrev pub in_one : List (List ℕ) → List ℕ
 in_one = join_by (λ w. w) (codes " ")
-
--- what borrowed words are
-abbrev pub texts : List (Bor (List ℕ)) → List (List ℕ)
-texts = map (λ w. w.now)
 
 -- no word stands on a blank line, and a comment's first begins with '#'
 abbrev pub SaysNothing : List (List ℕ) → Type 0

@@ -2,8 +2,8 @@ use Rattle.std.proofs.Common.{◌≡◌, ◌∙◌, ◌⊎◌, ◌++◌, ◌<◌
 use Rattle.std.proofs.lemmas.Bool.Decides.{nat_tests}
 use Rattle.std.specs.Prelude.{codes}
 use Rattle.std.specs.String.{string_bytes}
-use Rattle.script_lines.specs.Words.{in_one, texts}
-use Rattle.script_lines.proofs.Words.{cut_all, cut_more, joined_more, texts_more}
+use Rattle.script_lines.specs.Words.{in_one}
+use Rattle.script_lines.proofs.Words.{cut_all, cut_more, joined_more, texts, texts_more}
 use Rattle.script_lines.proofs.directives.single_blanks.Goals as goal
 use Rattle.script_lines.proofs.directives.single_blanks.Goals.{then-not-is_empty+in_ok-push_str, else-not-is_empty}
 

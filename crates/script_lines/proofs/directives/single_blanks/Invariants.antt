@@ -1,6 +1,7 @@
 use Rattle.std.proofs.Common.{◌≡◌, ◌++◌, [], length}
 use Rattle.std.specs.String.{string_bytes}
-use Rattle.script_lines.specs.Words.{in_one, texts, words, words_left}
+use Rattle.script_lines.specs.Words.{in_one, words, words_left}
+use Rattle.script_lines.proofs.Words.{texts}
 use Rattle.script_lines.proofs.directives.single_blanks.Given as goal
 
 -- the words so far stand in the text, and the others are left

@@ -1,9 +1,9 @@
 use Rattle.std.proofs.Common.{◌≡◌, ◌∙◌, ◌++◌, ◌∷◌, [], ap, inr, Some, None, Err, subst, sym, rules}
 use Rattle.std.specs.List.{Any}
 use Rattle.script_lines.specs.Numbers.{NumbersRead, StandFor, StandsFor, WhyNone}
-use Rattle.script_lines.specs.Words.{texts, words_left}
+use Rattle.script_lines.specs.Words.{words_left}
 use Rattle.script_lines.proofs.LinesRead.{any_at}
-use Rattle.script_lines.proofs.Words.{cut_all, cut_more, first_cut, texts_more}
+use Rattle.script_lines.proofs.Words.{cut_all, cut_more, first_cut, texts, texts_more}
 use Rattle.script_lines.proofs.Zipped.{zip_push}
 use Rattle.script_lines.proofs.numbers.read_numbers.Goals as goal
 

@@ -1,6 +1,7 @@
 use Rattle.std.proofs.Common.{◌≡◌, ◌++◌}
 use Rattle.script_lines.specs.Numbers.{StandFor}
-use Rattle.script_lines.specs.Words.{texts, words_left}
+use Rattle.script_lines.specs.Words.{words_left}
+use Rattle.script_lines.proofs.Words.{texts}
 use Rattle.script_lines.proofs.numbers.read_numbers.Given as goal
 
 -- the words so far stand for the numbers, and the others are left
